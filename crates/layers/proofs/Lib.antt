@@ -1,0 +1,4 @@
+pub mod Caching
+pub mod Newest
+pub mod Parting
+pub mod Piling

@@ -1,0 +1,5 @@
+pub mod Cached
+pub mod Layers
+pub mod Pile
+pub mod StoredAll
+pub mod Waits

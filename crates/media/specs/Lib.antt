@@ -1,0 +1,3 @@
+pub mod ByteImage
+pub mod Lagging
+pub mod Power

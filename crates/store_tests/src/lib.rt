@@ -1,0 +1,3 @@
+// Tests of the calls on the bottom memories.
+#[cfg(test)]
+mod format_tests;

@@ -1,4 +1,4 @@
--- What a session does with a command depends on its state and the command together.
+-- What a session does with a command in each of its states.
 use mathlib.Core.Path.{_≡_}
 use mathlib.Core.Bool.{Bool, true, false, cond}
 use mathlib.Core.List.{List, [], _∷_}

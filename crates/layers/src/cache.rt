@@ -79,7 +79,7 @@ pub impl<M: Memory> Memory for Cache<M> as CacheMemory {
         }
     }
 
-    // The stored word waits; a word goes below only to make room for a ninth.
+    // The stored word waits; where eight others wait already, the oldest goes below first.
     fn store(&mut self, at: u64, value: u64) -> Result<(), Fault>
         ensures gives { λ r. ⌜ Stored (cached (M·Memory .model) (now (self .entry))) at value r (cached (M·Memory .model) (now (self .exit))) ⌝ }
         ensures same { λ _. ⌜ M·Memory .lent (now (self .exit) .below) ≡ M·Memory .lent (now (self .entry) .below) ⌝ }

@@ -21,7 +21,7 @@ impl Run {
     }
 }
 
-// A run of words of any memory, shown as a memory of its own.
+// A stretch of another memory, shown as a memory of its own.
 #[derive(Drop)]
 pub struct Part<M: Memory> {
     below: M,

@@ -39,7 +39,7 @@ pub record WentDown (m n : Model) : Type 0 where
   pub fewer : Fewer m n
   pub down : n .up ≡ false
 
--- each word's only candidate is the value seen
+-- no word can turn out to hold anything but what is seen
 abbrev pub Settled : Model → Type 0
 Settled m = (i : ℕ) → i < m .count → Among (m .may i) (m .seen i ∷ [])
 
@@ -47,8 +47,8 @@ Settled m = (i : ℕ) → i < m .count → Among (m .may i) (m .seen i ∷ [])
 abbrev pub SeenMay : Model → Type 0
 SeenMay m = (i : ℕ) → i < m .count → In (m .seen i) (m .may i)
 
--- A load answers the value seen. While down it answers down and changes nothing; while up, a place past
--- the last word answers outside and changes nothing.
+-- A load answers the value seen. Without power it answers down, and past the last word it answers outside;
+-- neither changes anything.
 abbrev pub Loaded : Model → ℕ → Result ℕ Fault → Model → Type 0
 Loaded m i (Ok v) n = (m .up ≡ true) × (n .up ≡ true) × (i < m .count) × (v ≡ m .seen i) × SameSeen m n × Fewer m n
 Loaded m i (Err Outside) n = (m .up ≡ true) × (m .count ≤ i) × (n ≡ m)
@@ -77,7 +77,7 @@ Flushed m (Ok _) n = (m .up ≡ true) × (n .up ≡ true) × SameSeen m n × Few
 Flushed m (Err Down) n = WentDown m n × (m .up ≡ false → n ≡ m)
 Flushed m (Err Outside) n = ⊥
 
--- A restart answers what the memory then is: up, each word with one of its earlier candidates, alone and seen; or down.
+-- A restart answers whether there is power then. If so, each word has settled on a candidate that it had; if not, none gained one.
 abbrev pub Restarted : Model → Bool → Model → Type 0
 Restarted m true n = (n .up ≡ true) × (n .count ≡ m .count) × ((i : ℕ) → i < m .count → In (n .seen i) (m .may i)) × Settled n
 Restarted m false n = WentDown m n

@@ -5,7 +5,7 @@ use crate::memory::Memory;
 
 // A memory whose power a bench can cut: after a number of further loads, stores and barriers the next one finds it lost.
 pub trait CutPoint: Memory {
-    // the number of loads, stores and barriers still taken, or none
+    // how many more operations find power, if there is a limit
     ghost cut: { Self → Option ℕ };
 
     fn cut_after(&mut self, operations: Option<u64>)

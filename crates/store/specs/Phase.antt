@@ -2,12 +2,12 @@
 use mathlib.Core.Path.{_≡_}
 use mathlib.Core.Bool.{true, false}
 use mathlib.Core.List.{List, [], _∷_, map}
-use Prim.Native.Nat.{ℕ, _<_}
+use Prim.Native.Nat.{ℕ, _<_, _+_}
 use Rattle.std.specs.Iters.{counting}
 use Rattle.std.specs.declared.result.Result.{Result}
 use Rattle.std.specs.declared.result.Result.the-variants.{Ok, Err}
 use Rattle.memory.specs.Model.{Model, Settled}
-use Rattle.memory.specs.Stores.{word, Made}
+use Rattle.memory.specs.Stores.{Words, word, Made}
 use Rattle.memory.specs.declared.word.Word.{Word}
 use Rattle.store.specs.declared.refusal.Refusal.{Refusal}
 use Rattle.store.specs.declared.refusal.Refusal.the-variants.{PowerLost}
@@ -20,6 +20,10 @@ Within n (s ∷ ss) = (s .at < n) × Within n ss
 -- zero in each of n words from a
 abbrev pub zeros : ℕ → ℕ → List Word
 zeros a n = map (λ i. word i 0) (counting a n)
+
+-- the n words from one place copied to another
+abbrev pub copies : Words → ℕ → ℕ → ℕ → List Word
+copies w from to n = map (λ j. word (to + j) (w (from + j))) (counting 0 n)
 
 -- all of the stores were made, and power lasted
 pub record AllMade (m : Model) (ss : List Word) (n : Model) : Type 0 where

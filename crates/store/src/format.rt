@@ -1,18 +1,14 @@
 ghost use mathlib.Core.Path.{_≡_};
-ghost use mathlib.Core.Bool.{cond};
-ghost use Prim.Native.Nat.{ℕ, _/_, _≤_};
-ghost use Rattle.std.specs.declared.option.Option.the-variants.{Some, None};
-ghost use Rattle.store.specs.Format.{suits, clearing, Formats};
+ghost use Prim.Native.Nat.{_≤_};
+ghost use Rattle.store.specs.Format.{clearing, Formats};
 ghost use Rattle.store.specs.Phase.{Persisted};
 use crate::phase::clear_run;
 use crate::phase::persist_word;
 use crate::phase::settle;
 use crate::phase::store_word;
 use crate::refusal::Refusal;
+use crate::size::blocks_in;
 use memory::memory::Memory;
-
-// the words of a block
-const BLOCK: u64 = 32;
 
 // the word that holds the count of blocks
 const BLOCKS: u64 = 0;
@@ -25,18 +21,6 @@ const SLOTS: u64 = 64;
 
 // the word after the last of them
 const SLOTS_END: u64 = 96;
-
-// The count of blocks in a memory of so many words, if the store takes such a memory.
-fn blocks_in(words: u64) -> Option<u64>
-    ensures { λ r. ⌜ r ≡ cond (suits words) (Some (words / 32)) None ⌝ }
-{
-    let blocks = words / BLOCK;
-    if words % BLOCK == 0 && blocks >= 6 && blocks <= 4096 {
-        Some(blocks)
-    } else {
-        None
-    }
-}
 
 // The phase that clears the state of the log and the slots.
 fn clear<M: Memory>(memory: &mut M) -> Result<(), Refusal>

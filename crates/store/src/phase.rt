@@ -1,9 +1,10 @@
 ghost use mathlib.Core.Path.{_≡_};
 ghost use mathlib.Core.Bool.{true};
 ghost use mathlib.Core.List.{[], _∷_};
-ghost use Prim.Native.Nat.{ℕ, _<_, _-_, _≤_};
+ghost use Prim.Native.Nat.{ℕ, _<_, _+_, _-_, _^_, _≤_};
 ghost use Rattle.memory.specs.Stores.{word};
-ghost use Rattle.store.specs.Phase.{Within, zeros, Storing, Persisted};
+ghost use Rattle.store.specs.Phase.{Within, zeros, copies, Storing, Persisted};
+use crate::reading::load_word;
 use crate::refusal::Refusal;
 use memory::memory::Memory;
 use memory::word::Word;
@@ -30,6 +31,27 @@ pub(crate) fn clear_run<M: Memory>(memory: &mut M, first: u64, end: u64) -> Resu
 {
     for at in first..end {
         store_word(memory, at, 0)?;
+    }
+    Ok(())
+}
+
+// Copies words to a run that lies apart from them, in a memory that is up.
+pub(crate) fn copy_run<M: Memory>(
+    memory: &mut M,
+    from: u64,
+    to: u64,
+    count: u64,
+) -> Result<(), Refusal>
+    requires up { ⌜ M·Memory .model (now memory) .up ≡ true ⌝ }
+    requires apart { ⌜ from + count ≤ to ⌝ }
+    requires inside { ⌜ to + count ≤ M·Memory .model (now memory) .count ⌝ }
+    requires fits { ⌜ to + count < 2 ^ 64 ⌝ }
+    ensures made { λ r. ⌜ Storing (M·Memory .model (now (memory .entry))) (copies (M·Memory .model (now (memory .entry)) .seen) from to count) r (M·Memory .model (now (memory .exit))) ⌝ }
+    ensures lent { λ _. ⌜ M·Memory .lent (now (memory .exit)) ≡ M·Memory .lent (now (memory .entry)) ⌝ }
+{
+    for j in 0..count {
+        let value = load_word(memory, from + j)?;
+        store_word(memory, to + j, value)?;
     }
     Ok(())
 }

@@ -6,7 +6,9 @@ ghost use Rattle.store.specs.Answers.{number};
 pub enum Refusal {
     // power was lost
     PowerLost,
-    // the memory has not 32 times 6 to 4,096 words
+    // the first image rule that fails
+    BadImage(u8),
+    // the memory's words do not make 6 to 4,096 whole blocks
     WrongSize,
 }
 
@@ -17,6 +19,7 @@ impl Refusal {
     {
         match self {
             Refusal::PowerLost => 1,
+            Refusal::BadImage(_) => 2,
             Refusal::WrongSize => 9,
         }
     }

@@ -1,0 +1,9 @@
+pub mod Bits
+pub mod Blocks
+pub mod Bytes
+pub mod Fields
+pub mod Frame
+pub mod Lists
+pub mod Names
+pub mod Pieces
+pub mod Recovering

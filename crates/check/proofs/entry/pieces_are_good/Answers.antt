@@ -4,27 +4,27 @@ use Rattle.check.proofs.Entries.{BothGood, first-bad, first_good, piece-before, 
 use Rattle.check.proofs.Looking.{looked-more, looked-down, reads_exit}
 use Rattle.check.proofs.entry.pieces_are_good.Goals as goal
 
-pub returns-in-err-end : goal.returns-in-err-end
-returns-in-err-end g c =
+pub returns-in_err-end : goal.returns-in_err-end
+returns-in_err-end g c =
     let m = g.M.Memory.model c.args.memory.now in
-    let start = c.in-ok-start.ensures in
-    let h = c.in-err-end.ensures in
-    let r = c.from-residual-in-err-end in
+    let start = c.in_ok-start.ensures in
+    let h = c.in_err-end.ensures in
+    let r = c.from_residual-in_err-end in
     record {
-      reads = reads_exit (g.M.Memory.model c.load-word-2.new.memory) (BothGood m.seen c.args.word) c.in-err-end.field-0.0 r.result r.ensures.1 h.reads.1
+      reads = reads_exit (g.M.Memory.model c.load_word-2.new.memory) (BothGood m.seen c.args.word) c.in_err-end.field-0.0 r.result r.ensures.1 h.reads.1
           (looked-down start.reads.0 h.reads.0);
       lent = h.lent ∙ start.lent;
     }
 
-pub returns-in-err-good : goal.returns-in-err-good
-returns-in-err-good g c =
+pub returns-in_err-good : goal.returns-in_err-good
+returns-in_err-good g c =
     let m = g.M.Memory.model c.args.memory.now in
-    let start = c.in-ok-start.ensures in
-    let end = c.in-ok-end.ensures in
-    let h = c.in-err-good.ensures in
-    let r = c.from-residual-in-err-good in
+    let start = c.in_ok-start.ensures in
+    let end = c.in_ok-end.ensures in
+    let h = c.in_err-good.ensures in
+    let r = c.from_residual-in_err-good in
     record {
-      reads = reads_exit (g.M.Memory.model c.piece-is-good.new.memory) (BothGood m.seen c.args.word) c.in-err-good.field-0.0 r.result r.ensures.1 h.reads.1
+      reads = reads_exit (g.M.Memory.model c.piece_is_good.new.memory) (BothGood m.seen c.args.word) c.in_err-good.field-0.0 r.result r.ensures.1 h.reads.1
           (looked-down (looked-more start.reads.0 end.reads.0) h.reads.0);
       lent = h.lent ∙ end.lent ∙ start.lent;
     }
@@ -32,29 +32,29 @@ returns-in-err-good g c =
 pub returns-then-not-good : goal.returns-then-not-good
 returns-then-not-good g c =
     let m = g.M.Memory.model c.args.memory.now in
-    let start = c.in-ok-start.ensures in
-    let end = c.in-ok-end.ensures in
-    let h = c.in-ok-good.ensures in
+    let start = c.in_ok-start.ensures in
+    let end = c.in_ok-end.ensures in
+    let h = c.in_ok-good.ensures in
     let looked = looked-more start.reads.0 end.reads.0 in
-    let first = piece-before c.args.blocks c.args.word c.in-ok-start.start (m.seen 11) c.in-ok-good.good looked c.requires.size c.requires.map c.requires.length start.reads.1 h.reads.1 in
+    let first = piece-before c.args.blocks c.args.word c.in_ok-start.start (m.seen 11) c.in_ok-good.good looked c.requires.size c.requires.map c.requires.length start.reads.1 h.reads.1 in
     record {
-      reads = (looked-more looked h.reads.0, first-bad m.seen c.args.word c.in-ok-good.good c.if-not-good.true first);
+      reads = (looked-more looked h.reads.0, first-bad m.seen c.args.word c.in_ok-good.good c.if-not-good.true first);
       lent = h.lent ∙ end.lent ∙ start.lent;
     }
 
 pub returns : goal.returns
 returns g c =
     let m = g.M.Memory.model c.args.memory.now in
-    let start = c.in-ok-start.ensures in
-    let end = c.in-ok-end.ensures in
-    let h = c.in-ok-good.ensures in
+    let start = c.in_ok-start.ensures in
+    let end = c.in_ok-end.ensures in
+    let h = c.in_ok-good.ensures in
     let looked = looked-more start.reads.0 end.reads.0 in
     let later = looked-more looked h.reads.0 in
-    let first = piece-before c.args.blocks c.args.word c.in-ok-start.start (m.seen 11) c.in-ok-good.good looked c.requires.size c.requires.map c.requires.length start.reads.1 h.reads.1 in
+    let first = piece-before c.args.blocks c.args.word c.in_ok-start.start (m.seen 11) c.in_ok-good.good looked c.requires.size c.requires.map c.requires.length start.reads.1 h.reads.1 in
     record {
-      reads = reads-later (g.M.Memory.model c.piece-is-good-2.new.memory) (λ b. Decides b (PieceGood (g.M.Memory.model c.piece-is-good.new.memory).seen c.args.word c.in-ok-end.end)) (BothGood m.seen c.args.word) c.piece-is-good-2.result later
-          (λ b second. first_good m.seen c.args.word c.in-ok-good.good b c.if-not-good.false first
-          (piece-before c.args.blocks c.args.word c.in-ok-end.end (m.seen 12) b later c.requires.size c.requires.map c.requires.length (end.reads.1 ∙ start.reads.0.seen 12 (omega (arith, c.requires.size, c.requires.map))) second))
-          c.piece-is-good-2.ensures.reads;
-      lent = c.piece-is-good-2.ensures.lent ∙ h.lent ∙ end.lent ∙ start.lent;
+      reads = reads-later (g.M.Memory.model c.piece_is_good-2.new.memory) (λ b. Decides b (PieceGood (g.M.Memory.model c.piece_is_good.new.memory).seen c.args.word c.in_ok-end.end)) (BothGood m.seen c.args.word) c.piece_is_good-2.result later
+          (λ b second. first_good m.seen c.args.word c.in_ok-good.good b c.if-not-good.false first
+          (piece-before c.args.blocks c.args.word c.in_ok-end.end (m.seen 12) b later c.requires.size c.requires.map c.requires.length (end.reads.1 ∙ start.reads.0.seen 12 (omega (arith, c.requires.size, c.requires.map))) second))
+          c.piece_is_good-2.ensures.reads;
+      lent = c.piece_is_good-2.ensures.lent ∙ h.lent ∙ end.lent ∙ start.lent;
     }

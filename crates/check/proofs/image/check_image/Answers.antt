@@ -7,13 +7,13 @@ use Rattle.check.proofs.Checking.{two_from, three-from, formed-from, differ-from
 use Rattle.check.proofs.Sizing.{size-taken, size-blocks}
 use Rattle.check.proofs.image.check_image.Goals as goal
 
-pub check-blocks-requires : goal.check-blocks-requires
-check-blocks-requires g c =
+pub check_blocks-requires : goal.check_blocks-requires
+check_blocks-requires g c =
     let m = g.M.Memory.model c.args.memory.now in
     let n = c.in-Some.blocks in
     let size = size-taken m c.count.result n c.count.ensures c.in-Some.ensures in
     let bounds = size-blocks m.count n size.0 size.1 in
-    let h = c.in-ok-directory.ensures.listed in
+    let h = c.in_ok-directory.ensures.listed in
     let later = lists-later {m = m} (omega (arith, bounds.0, bounds.2)) h.0 h.1 in
     record {
       up = h.0.up;
@@ -26,17 +26,17 @@ check-blocks-requires g c =
       three = three-from later n (rooted-from h.1 n h.4);
     }
 
-pub returns-in-err-used : goal.returns-in-err-used
-returns-in-err-used g c =
+pub returns-in_err-used : goal.returns-in_err-used
+returns-in_err-used g c =
     let m = g.M.Memory.model c.args.memory.now in
     let n = c.in-Some.blocks in
     let size = size-taken m c.count.result n c.count.ensures c.in-Some.ensures in
     let bounds = size-blocks m.count n size.0 size.1 in
-    let o = g.M.Memory.model c.check-blocks.new.memory in
-    let e = c.in-err-used.field-0.0 in
-    let r = c.from-residual-in-err-used in
-    let first = c.in-ok-directory.ensures in
-    let h = c.in-err-used.ensures in
+    let o = g.M.Memory.model c.check_blocks.new.memory in
+    let e = c.in_err-used.field-0.0 in
+    let r = c.from_residual-in_err-used in
+    let first = c.in_ok-directory.ensures in
+    let h = c.in_err-used.ensures in
     record {
       checks = record {
         refused = λ f. absurd (up-down (suits m.count) size.0 f);
@@ -51,10 +51,10 @@ returns g c =
     let n = c.in-Some.blocks in
     let size = size-taken m c.count.result n c.count.ensures c.in-Some.ensures in
     let bounds = size-blocks m.count n size.0 size.1 in
-    let o = g.M.Memory.model c.check-blocks.new.memory in
-    let first = c.in-ok-directory.ensures in
-    let h = c.in-ok-used.ensures in
-    let checked = checked-before n o (Ok c.in-ok-used.used) bounds.0 bounds.2 first.listed.0 h.checked in
+    let o = g.M.Memory.model c.check_blocks.new.memory in
+    let first = c.in_ok-directory.ensures in
+    let h = c.in_ok-used.ensures in
+    let checked = checked-before n o (Ok c.in_ok-used.used) bounds.0 bounds.2 first.listed.0 h.checked in
     record {
       checks = record {
         refused = λ f. absurd (up-down (suits m.count) size.0 f);

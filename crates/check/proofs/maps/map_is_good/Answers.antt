@@ -8,34 +8,34 @@ use Rattle.check.proofs.maps.map_is_good.Given as given
 use Rattle.check.proofs.maps.map_is_good.Goals as goal
 use Rattle.check.proofs.maps.map_is_good.Goals.{In-ok-block}
 
-pub returns-in-err-block : goal.returns-in-err-block
-returns-in-err-block g c =
+pub returns-in_err-block : goal.returns-in_err-block
+returns-in_err-block g c =
     let m = g.M.Memory.model c.args.memory.now in
-    let h = c.in-err-block.ensures in
+    let h = c.in_err-block.ensures in
     record {
-      reads = reads_exit (g.M.Memory.model c.load-word.new.memory) (λ b. Decides b (MapGood c.args.blocks m.seen c.args.root.map c.args.root.length)) c.in-err-block.field-0.0 c.from-residual.result c.from-residual.ensures.1 h.reads.1
+      reads = reads_exit (g.M.Memory.model c.load_word.new.memory) (λ b. Decides b (MapGood c.args.blocks m.seen c.args.root.map c.args.root.length)) c.in_err-block.field-0.0 c.from_residual.result c.from_residual.ensures.1 h.reads.1
           (looked-down c.loop-k.invariant.0 h.reads.0);
       lent = h.lent ∙ c.loop-k.invariant.1;
     }
 
 -- the word that a turn loads
-loaded : (g : given.Over) (c : In-ok-block g) → c.in-ok-block.block ≡ in_block (g.M.Memory.model c.args.memory.now).seen c.from-map.result c.loop-k.k
+loaded : (g : given.Over) (c : In-ok-block g) → c.in_ok-block.block ≡ in_block (g.M.Memory.model c.args.memory.now).seen c.from-map.result c.loop-k.k
 loaded g c =
     let m = g.M.Memory.model c.args.memory.now in
     let inside = map-inside c.args.blocks c.from-map.result c.args.root.length c.loop-k.k m.count (omega arith) (omega arith) (omega arith) c.requires.size in
-    c.in-ok-block.ensures.reads.1 ∙ c.loop-k.invariant.0.seen (32 * c.from-map.result + c.loop-k.k) inside
+    c.in_ok-block.ensures.reads.1 ∙ c.loop-k.invariant.0.seen (32 * c.from-map.result + c.loop-k.k) inside
 
 pub returns-then-block-lt3 : goal.returns-then-block-lt3
 returns-then-block-lt3 g c =
     let m = g.M.Memory.model c.args.memory.now in
     let k = c.loop-k.k in
-    let h = c.in-ok-block.ensures in
+    let h = c.in_ok-block.ensures in
     let less : k < blocks_for c.args.root.length = omega arith in
-    let value : c.in-ok-block.block ≡ in_block m.seen c.args.root.map k = loaded g (goal.at.returns-then-block-lt3 g c).In-ok-block ∙ ap (λ b. in_block m.seen b k) c.from-map.ensures in
+    let value : c.in_ok-block.block ≡ in_block m.seen c.args.root.map k = loaded g (goal.at.returns-then-block-lt3 g c).In-ok-block ∙ ap (λ b. in_block m.seen b k) c.from-map.ensures in
     record {
       reads = (
         looked-more c.loop-k.invariant.0 h.reads.0,
-        decides-no (map-bad c.args.blocks m.seen c.args.root.map c.args.root.length k c.in-ok-block.block less value c.then-block-lt3.either),
+        decides-no (map-bad c.args.blocks m.seen c.args.root.map c.args.root.length k c.in_ok-block.block less value c.then-block-lt3.either),
       );
       lent = h.lent ∙ c.loop-k.invariant.1;
     }
@@ -43,7 +43,7 @@ returns-then-block-lt3 g c =
 pub loop-k-preserved : goal.loop-k-preserved
 loop-k-preserved g c =
     let value = loaded g (goal.at.loop-k-preserved g c).In-ok-block in
-    let h = c.in-ok-block.ensures in (
+    let h = c.in_ok-block.ensures in (
       looked-more c.loop-k.invariant.0 h.reads.0,
       h.lent ∙ c.loop-k.invariant.1,
       below_more _ _ c.loop-k.invariant.2 (subst (DataBlock c.args.blocks) value (c.if-block-lt3.false, c.if-block-blocks.false)),

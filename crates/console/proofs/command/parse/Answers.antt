@@ -26,8 +26,8 @@ returns-in-75 c =
     let some : 0 < length c.args.input.now = search rules in
     let first : get_or c.args.input.now 0 0 ≡ 75 = search rules in
     record {
-      value = c.parse-cut-point.ensures.value ∙ sym (ap parsed (first_rest c.args.input.now 75 some first));
-      shorter = found-less c.parse-cut-point.result (λ x. length x.1.now) (length (after 1 c.args.input.now)) (length c.args.input.now) (after_less c.args.input.now some) c.parse-cut-point.ensures.shorter;
+      value = c.parse_cut_point.ensures.value ∙ sym (ap parsed (first_rest c.args.input.now 75 some first));
+      shorter = found-less c.parse_cut_point.result (λ x. length x.1.now) (length (after 1 c.args.input.now)) (length c.args.input.now) (after_less c.args.input.now some) c.parse_cut_point.ensures.shorter;
     }
 
 pub returns-in-67 : goal.returns-in-67
@@ -35,8 +35,8 @@ returns-in-67 c =
     let some : 0 < length c.args.input.now = search rules in
     let first : get_or c.args.input.now 0 0 ≡ 67 = search rules in
     record {
-      value = c.parse-create.ensures.value ∙ sym (ap parsed (first_rest c.args.input.now 67 some first));
-      shorter = found-less c.parse-create.result (λ x. length x.1.now) (length (after 1 c.args.input.now)) (length c.args.input.now) (after_less c.args.input.now some) c.parse-create.ensures.shorter;
+      value = c.parse_create.ensures.value ∙ sym (ap parsed (first_rest c.args.input.now 67 some first));
+      shorter = found-less c.parse_create.result (λ x. length x.1.now) (length (after 1 c.args.input.now)) (length c.args.input.now) (after_less c.args.input.now some) c.parse_create.ensures.shorter;
     }
 
 pub returns-in-68 : goal.returns-in-68
@@ -44,8 +44,8 @@ returns-in-68 c =
     let some : 0 < length c.args.input.now = search rules in
     let first : get_or c.args.input.now 0 0 ≡ 68 = search rules in
     record {
-      value = c.parse-remove.ensures.value ∙ sym (ap parsed (first_rest c.args.input.now 68 some first));
-      shorter = found-less c.parse-remove.result (λ x. length x.1.now) (length (after 1 c.args.input.now)) (length c.args.input.now) (after_less c.args.input.now some) c.parse-remove.ensures.shorter;
+      value = c.parse_remove.ensures.value ∙ sym (ap parsed (first_rest c.args.input.now 68 some first));
+      shorter = found-less c.parse_remove.result (λ x. length x.1.now) (length (after 1 c.args.input.now)) (length c.args.input.now) (after_less c.args.input.now some) c.parse_remove.ensures.shorter;
     }
 
 pub returns-in-83 : goal.returns-in-83
@@ -53,8 +53,8 @@ returns-in-83 c =
     let some : 0 < length c.args.input.now = search rules in
     let first : get_or c.args.input.now 0 0 ≡ 83 = search rules in
     record {
-      value = c.parse-shorten.ensures.value ∙ sym (ap parsed (first_rest c.args.input.now 83 some first));
-      shorter = found-less c.parse-shorten.result (λ x. length x.1.now) (length (after 1 c.args.input.now)) (length c.args.input.now) (after_less c.args.input.now some) c.parse-shorten.ensures.shorter;
+      value = c.parse_shorten.ensures.value ∙ sym (ap parsed (first_rest c.args.input.now 83 some first));
+      shorter = found-less c.parse_shorten.result (λ x. length x.1.now) (length (after 1 c.args.input.now)) (length c.args.input.now) (after_less c.args.input.now some) c.parse_shorten.ensures.shorter;
     }
 
 pub returns-in-78 : goal.returns-in-78
@@ -62,8 +62,8 @@ returns-in-78 c =
     let some : 0 < length c.args.input.now = search rules in
     let first : get_or c.args.input.now 0 0 ≡ 78 = search rules in
     record {
-      value = c.parse-rename.ensures.value ∙ sym (ap parsed (first_rest c.args.input.now 78 some first));
-      shorter = found-less c.parse-rename.result (λ x. length x.1.now) (length (after 1 c.args.input.now)) (length c.args.input.now) (after_less c.args.input.now some) c.parse-rename.ensures.shorter;
+      value = c.parse_rename.ensures.value ∙ sym (ap parsed (first_rest c.args.input.now 78 some first));
+      shorter = found-less c.parse_rename.result (λ x. length x.1.now) (length (after 1 c.args.input.now)) (length c.args.input.now) (after_less c.args.input.now some) c.parse_rename.ensures.shorter;
     }
 
 pub returns-in-71 : goal.returns-in-71
@@ -71,6 +71,6 @@ returns-in-71 c =
     let some : 0 < length c.args.input.now = search rules in
     let first : get_or c.args.input.now 0 0 ≡ 71 = search rules in
     record {
-      value = c.parse-read.ensures.value ∙ sym (ap parsed (first_rest c.args.input.now 71 some first));
-      shorter = found-less c.parse-read.result (λ x. length x.1.now) (length (after 1 c.args.input.now)) (length c.args.input.now) (after_less c.args.input.now some) c.parse-read.ensures.shorter;
+      value = c.parse_read.ensures.value ∙ sym (ap parsed (first_rest c.args.input.now 71 some first));
+      shorter = found-less c.parse_read.result (λ x. length x.1.now) (length (after 1 c.args.input.now)) (length c.args.input.now) (after_less c.args.input.now some) c.parse_read.ensures.shorter;
     }

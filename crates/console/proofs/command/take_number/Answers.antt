@@ -6,6 +6,6 @@ pub returns : goal.returns
 returns c =
     let some : 4 ≤ length c.args.input.now = search rules in
     record {
-      value = number-some 4 c.args.input.now c.from-le-bytes.result some (c.from-le-bytes.ensures ∙ little-four c.args.input.now);
+      value = number-some 4 c.args.input.now c.from_le_bytes.result some (c.from_le_bytes.ensures ∙ little-four c.args.input.now);
       shorter = search rules;
     }

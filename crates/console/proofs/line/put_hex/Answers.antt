@@ -21,9 +21,9 @@ loop-byte-preserved c =
     byte-written c.args.out.now c.loop-byte.out c.put-next.new.out c.put-next-in-loop-byte.new.out c.args.bytes.now c.args.at
     c.loop-byte.byte-index c.loop-byte.next c.put-next.result c.put-next-in-loop-byte.result c.loop-byte-test.true c.requires
     c.loop-byte.invariant.0 c.loop-byte.invariant.1 c.put-next.ensures.value
-    (c.put-next.ensures.after ∙ ap (λ d. written c.loop-byte.out c.loop-byte.next (d ∷ [])) c.hex-digit.ensures)
+    (c.put-next.ensures.after ∙ ap (λ d. written c.loop-byte.out c.loop-byte.next (d ∷ [])) c.hex_digit.ensures)
     c.put-next-in-loop-byte.ensures.value
-    (c.put-next-in-loop-byte.ensures.after ∙ ap (λ d. written c.put-next.new.out c.put-next.result (d ∷ [])) c.hex-digit-in-loop-byte.ensures)
+    (c.put-next-in-loop-byte.ensures.after ∙ ap (λ d. written c.put-next.new.out c.put-next.result (d ∷ [])) c.hex_digit-in-loop-byte.ensures)
 
 pub returns : goal.returns
 returns c =

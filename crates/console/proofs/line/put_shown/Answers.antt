@@ -5,9 +5,9 @@ use Rattle.console.proofs.Lengths.{shown-none, shown-some}
 use Rattle.console.proofs.Writing.{then-written, written_none}
 use Rattle.console.proofs.line.put_shown.Goals as goal
 
-pub returns-then-is-empty : goal.returns-then-is-empty
-returns-then-is-empty c =
-    let empty : length c.args.shown.now ≡ 0 = grind (arith, nat_tests, c.if-is-empty.ensures) in
+pub returns-then-is_empty : goal.returns-then-is_empty
+returns-then-is_empty c =
+    let empty : length c.args.shown.now ≡ 0 = grind (arith, nat_tests, c.if-is_empty.ensures) in
     let none = shown-none c.args.shown.now empty in
     record {
       value = omega (arith, ap length none);
@@ -16,10 +16,10 @@ returns-then-is-empty c =
 
 pub returns : goal.returns
 returns c =
-    let full : 0 < length c.args.shown.now = grind (arith, nat_tests, c.if-is-empty.ensures) in
+    let full : 0 < length c.args.shown.now = grind (arith, nat_tests, c.if-is_empty.ensures) in
     let some = shown-some c.args.shown.now full in
-    let w = then-written c.args.out.now c.put-next.new.out c.put-hex.new.out c.args.at c.put-next.result c.put-hex.result (32 ∷ []) (hex c.args.shown.now)
-    (omega arith) c.put-next.ensures.after c.put-hex.ensures.value c.put-hex.ensures.after (omega (arith, ap length some, c.requires)) in
+    let w = then-written c.args.out.now c.put-next.new.out c.put_hex.new.out c.args.at c.put-next.result c.put_hex.result (32 ∷ []) (hex c.args.shown.now)
+    (omega arith) c.put-next.ensures.after c.put_hex.ensures.value c.put_hex.ensures.after (omega (arith, ap length some, c.requires)) in
     record {
       value = w.0 ∙ ap (λ t. c.args.at + length t) (sym some);
       after = w.1 ∙ ap (written c.args.out.now c.args.at) (sym some);

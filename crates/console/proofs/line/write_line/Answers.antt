@@ -19,18 +19,18 @@ put-at-requires-2 c =
     let room = fits-from (length (line c.args.letter c.args.answer c.args.shown.now)) (length c.args.out.now) (c.if-not-fits.ensures.value c.args.letter) in
     omega (arith, length-line c.args.letter c.args.answer c.args.shown.now)
 
-pub put-decimal-at-requires : goal.put-decimal-at-requires
-put-decimal-at-requires c =
+pub put_decimal-at-requires : goal.put_decimal-at-requires
+put_decimal-at-requires c =
     let room = fits-from (length (line c.args.letter c.args.answer c.args.shown.now)) (length c.args.out.now) (c.if-not-fits.ensures.value c.args.letter) in
     omega (arith, length-line c.args.letter c.args.answer c.args.shown.now, ap (λ x. length (decimal x)) c.from.ensures)
 
-pub put-carried-at-requires : goal.put-carried-at-requires
-put-carried-at-requires c =
+pub put_carried-at-requires : goal.put_carried-at-requires
+put_carried-at-requires c =
     let room = fits-from (length (line c.args.letter c.args.answer c.args.shown.now)) (length c.args.out.now) (c.if-not-fits.ensures.value c.args.letter) in
     omega (arith, length-line c.args.letter c.args.answer c.args.shown.now, ap (λ x. length (decimal x)) c.from.ensures)
 
-pub put-shown-at-requires : goal.put-shown-at-requires
-put-shown-at-requires c =
+pub put_shown-at-requires : goal.put_shown-at-requires
+put_shown-at-requires c =
     let room = fits-from (length (line c.args.letter c.args.answer c.args.shown.now)) (length c.args.out.now) (c.if-not-fits.ensures.value c.args.letter) in
     omega (arith, length-line c.args.letter c.args.answer c.args.shown.now, ap (λ x. length (decimal x)) c.from.ensures)
 
@@ -42,12 +42,12 @@ put-requires c =
 pub returns : goal.returns
 returns c =
     let room = fits-from (length (line c.args.letter c.args.answer c.args.shown.now)) (length c.args.out.now) (c.if-not-fits.ensures.value c.args.letter) in
-    let w = line-written c.args.out.now c.put-at.new.out c.put-at-2.new.out c.put-decimal-at.new.out c.put-carried-at.new.out c.put-shown-at.new.out c.put.new.out
-    c.args.letter c.from.result c.put-at.result c.put-at-2.result c.put-decimal-at.result c.put-carried-at.result c.put-shown-at.result c.put.result
+    let w = line-written c.args.out.now c.put-at.new.out c.put-at-2.new.out c.put_decimal-at.new.out c.put_carried-at.new.out c.put_shown-at.new.out c.put.new.out
+    c.args.letter c.from.result c.put-at.result c.put-at-2.result c.put_decimal-at.result c.put_carried-at.result c.put_shown-at.result c.put.result
     c.args.answer c.args.shown.now c.from.ensures room
     c.put-at.ensures.value c.put-at.ensures.after c.put-at-2.ensures.value c.put-at-2.ensures.after
-    c.put-decimal-at.ensures.value c.put-decimal-at.ensures.after c.put-carried-at.ensures.value c.put-carried-at.ensures.after
-    c.put-shown-at.ensures.value c.put-shown-at.ensures.after c.put.ensures.value c.put.ensures.after in
+    c.put_decimal-at.ensures.value c.put_decimal-at.ensures.after c.put_carried-at.ensures.value c.put_carried-at.ensures.after
+    c.put_shown-at.ensures.value c.put_shown-at.ensures.after c.put.ensures.value c.put.ensures.after in
     record {
       writes = record { whole = λ _. (ap Some w.0, w.1); short = λ lt. absurd (omega arith) };
       bound = omega (arith, w.0, ap length w.1, length-written c.args.out.now 0 (line c.args.letter c.args.answer c.args.shown.now) (omega arith));

@@ -6,8 +6,8 @@ use Rattle.store.specs.Calls.{FileCall}
 use Rattle.console.proofs.Showing.{given-few, shown-front}
 use Rattle.console.proofs.state.show_file.Goals as goal
 
-pub overflow-cast-result : goal.overflow-cast-result
-overflow-cast-result g c =
+pub overflow_cast-result : goal.overflow_cast-result
+overflow_cast-result g c =
     let m = g.M.Memory.model c.args.memory.now in
     let n = g.M.Memory.model c.read.new.memory in
     let old : List ℕ = take c.from.result c.args.buffer.now in

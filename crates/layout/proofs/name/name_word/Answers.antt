@@ -7,5 +7,5 @@ returns c =
     let name = c.args.name in
     let long : length name ≡ 8 = search rules in
     let bytes : (i : ℕ) → Fits w8 (get_or name i 0) = λ i. search rules in
-    let value = word_of name c.from-le-bytes.result long c.from-le-bytes.ensures in
-    record { value = value; bytes = bytes_back name c.from-le-bytes.result long (λ i. (bytes i).fits) value }
+    let value = word_of name c.from_le_bytes.result long c.from_le_bytes.ensures in
+    record { value = value; bytes = bytes_back name c.from_le_bytes.result long (λ i. (bytes i).fits) value }

@@ -11,7 +11,7 @@ pub loop-call-init : goal.loop-call-init
 loop-call-init g c =
     let m = g.M.Memory.model c.args.memory.now in
     let f = g.M.Memory.model c.format.new.memory in
-    ([], λ old h. h, formats-alive m f c.in-ok-format.ensures.formats, refl, refl, refl, refl)
+    ([], λ old h. h, formats-alive m f c.in_ok-format.ensures.formats, refl, refl, refl, refl)
 
 pub loop-call-preserved : goal.loop-call-preserved
 loop-call-preserved g c =
@@ -30,7 +30,7 @@ loop-call-preserved g c =
       e ∷ es,
       λ old h. c.tell.ensures (es ++ old) (inv.1 old h),
       one_more f m n es count call c.step-answer.result bytes c.loop-call.ready inv.2 inv.3 long (subst (λ k. Did m c.loop-call.ready (asked k call) (reply_of c.step-answer.result) bytes n) inv.5 did.did),
-      ready-more n es call c.step-answer.result bytes c.loop-call.ready c.ready-after-ready.result inv.3 c.ready-after-ready.ensures,
+      ready-more n es call c.step-answer.result bytes c.loop-call.ready c.ready_after-ready.result inv.3 c.ready_after-ready.ensures,
       asked-more es c.args.calls.now i count Restart e c.loop-call-test.true (ap (λ k. asked k call) long) inv.4,
       long,
       did.lent ∙ inv.6,
@@ -41,7 +41,7 @@ returns g c =
     let f = g.M.Memory.model c.format.new.memory in
     let m = g.M.Memory.model c.loop-call.memory in
     let inv = c.loop-call.invariant in
-    let first = c.in-ok-format.ensures in
+    let first = c.in_ok-format.ensures in
     let calls = map (asked (length c.args.buffer.now)) c.args.calls.now in
     let all = inv.4 ∙ take_all c.loop-call.call-index calls (subst (λ k. k ≤ c.loop-call.call-index) (sym (length-map c.args.calls.now (asked (length c.args.buffer.now)))) c.loop-call-test.false) in
     record {

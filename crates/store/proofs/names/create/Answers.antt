@@ -15,98 +15,98 @@ use Rattle.store.proofs.Phases.{looked-made, done_more}
 use Rattle.store.proofs.Phasing.{first-cut, last-phase}
 use Rattle.store.proofs.names.create.Goals as goal
 
-pub returns-in-err-survey : goal.returns-in-err-survey
-returns-in-err-survey g c =
+pub returns-in_err-survey : goal.returns-in_err-survey
+returns-in_err-survey g c =
     let a = create c.args.name in
-    let formed = sym c.is-well-formed.ensures ∙ c.if-not-is-well-formed.false in
-    let h = c.in-err-survey.ensures in
-    record { created = slot-exit (g.M.Memory.model c.open.new.memory) a c.in-err-survey.field-0.0 c.from-residual.result c.from-residual.ensures.1 (early-formed (well_formed c.args.name) formed) h.opens; lent = h.lent }
+    let formed = sym c.is_well_formed.ensures ∙ c.if-not-is_well_formed.false in
+    let h = c.in_err-survey.ensures in
+    record { created = slot-exit (g.M.Memory.model c.open.new.memory) a c.in_err-survey.field-0.0 c.from_residual.result c.from_residual.ensures.1 (early-formed (well_formed c.args.name) formed) h.opens; lent = h.lent }
 
 pub returns-in-Some : goal.returns-in-Some
 returns-in-Some g c =
     let m = g.M.Memory.model c.args.memory.now in
     let k = g.M.Memory.model c.open.new.memory in
     let name = c.args.name in
-    let x = c.name-word-word.result in
-    let s = c.in-ok-survey.survey in
+    let x = c.name_word-word.result in
+    let s = c.in_ok-survey.survey in
     let slot = c.in-Some.field-0 in
-    let h = c.in-ok-survey.ensures in
+    let h = c.in_ok-survey.ensures in
     let found = c.in-Some.ensures in
-    let formed = sym c.is-well-formed.ensures ∙ c.if-not-is-well-formed.false in
+    let formed = sym c.is_well_formed.ensures ∙ c.if-not-is_well_formed.false in
     let b = known {m = m} k s h.opens in
-    let bytes = c.name-word-word.ensures.bytes in
+    let bytes = c.name_word-word.ensures.bytes in
     let some = look_up (m.count / 32) m.seen s.directory b.big b.clean b.lists slot x name formed found.0 found.1 bytes in
     record { created = slot-refused (create name) NameTaken (answered-refused s (create name) NameTaken b (early-formed (well_formed name) formed) (create-taken (table_of m.seen) name formed _ some)); lent = h.lent }
 
-pub returns-in-default-find-slot : goal.returns-in-default-find-slot
-returns-in-default-find-slot g c =
+pub returns-in_default-find_slot : goal.returns-in_default-find_slot
+returns-in_default-find_slot g c =
     let m = g.M.Memory.model c.args.memory.now in
     let k = g.M.Memory.model c.open.new.memory in
     let name = c.args.name in
-    let s = c.in-ok-survey.survey in
-    let h = c.in-ok-survey.ensures in
-    let formed = sym c.is-well-formed.ensures ∙ c.if-not-is-well-formed.false in
+    let s = c.in_ok-survey.survey in
+    let h = c.in_ok-survey.ensures in
+    let formed = sym c.is_well_formed.ensures ∙ c.if-not-is_well_formed.false in
     let b = known {m = m} k s h.opens in
-    let none = missing-none m.seen s.directory b.lists c.name-word-word.result name c.in-default.ensures c.name-word-word.ensures.bytes in
-    let full = slots-full m.seen (all_named m.seen s.directory b.lists c.in-default-find-slot.ensures) in
+    let none = missing-none m.seen s.directory b.lists c.name_word-word.result name c.in_default.ensures c.name_word-word.ensures.bytes in
+    let full = slots-full m.seen (all_named m.seen s.directory b.lists c.in_default-find_slot.ensures) in
     record { created = slot-refused (create name) TooManyFiles (answered-refused s (create name) TooManyFiles b (early-formed (well_formed name) formed) (create-full (table_of m.seen) name formed none full)); lent = h.lent }
 
-pub persist-word-requires : goal.persist-word-requires
-persist-word-requires g c =
+pub persist_word-requires : goal.persist_word-requires
+persist_word-requires g c =
     let m = g.M.Memory.model c.args.memory.now in
     let k = g.M.Memory.model c.open.new.memory in
-    let s = c.in-ok-survey.survey in
-    let found = c.in-Some-find-slot.ensures in
-    place_inside s (64 + (2 * c.in-Some-find-slot.slot + 1)) (known {m = m} k s c.in-ok-survey.ensures.opens) (omega (arith, found.0))
+    let s = c.in_ok-survey.survey in
+    let found = c.in-Some-find_slot.ensures in
+    place_inside s (64 + (2 * c.in-Some-find_slot.slot + 1)) (known {m = m} k s c.in_ok-survey.ensures.opens) (omega (arith, found.0))
 
-pub returns-in-err-persist-word : goal.returns-in-err-persist-word
-returns-in-err-persist-word g c =
+pub returns-in_err-persist_word : goal.returns-in_err-persist_word
+returns-in_err-persist_word g c =
     let m = g.M.Memory.model c.args.memory.now in
     let k = g.M.Memory.model c.open.new.memory in
-    let n = g.M.Memory.model c.persist-word.new.memory in
+    let n = g.M.Memory.model c.persist_word.new.memory in
     let name = c.args.name in
-    let s = c.in-ok-survey.survey in
-    let slot = c.in-Some-find-slot.slot in
-    let opened = c.in-ok-survey.ensures in
-    let found = c.in-Some-find-slot.ensures in
-    let h = c.in-err-persist-word.ensures in
-    let r = c.from-residual-in-err-persist-word in
-    let formed = sym c.is-well-formed.ensures ∙ c.if-not-is-well-formed.false in
+    let s = c.in_ok-survey.survey in
+    let slot = c.in-Some-find_slot.slot in
+    let opened = c.in_ok-survey.ensures in
+    let found = c.in-Some-find_slot.ensures in
+    let h = c.in_err-persist_word.ensures in
+    let r = c.from_residual-in_err-persist_word in
+    let formed = sym c.is_well_formed.ensures ∙ c.if-not-is_well_formed.false in
     let b = known {m = m} k s opened.opens in
     let first = clearing (m.count / 32) m.seen slot b.big b.clean found.0 (empty-slot m.seen s.directory b.lists slot found.0 found.1) in
     record {
-      created = slot-cut n (create name) c.in-err-persist-word.field-0.0 r.result r.ensures.1 h.done.1 (early-formed (well_formed name) formed) b.suitable
+      created = slot-cut n (create name) c.in_err-persist_word.field-0.0 r.result r.ensures.1 h.done.1 (early-formed (well_formed name) formed) b.suitable
           (first-cut {k = k} {n = n} (create name) (64 + (2 * slot + 1)) 0 b.suitable (omega (arith, found.0)) (omega arith) first.0 first.1 b.looked h.done.0);
       lent = h.lent ∙ opened.lent;
     }
 
-pub persist-word-requires-2 : goal.persist-word-requires-2
-persist-word-requires-2 g c =
+pub persist_word-requires-2 : goal.persist_word-requires-2
+persist_word-requires-2 g c =
     let m = g.M.Memory.model c.args.memory.now in
     let k = g.M.Memory.model c.open.new.memory in
-    let j = g.M.Memory.model c.persist-word.new.memory in
-    let s = c.in-ok-survey.survey in
-    let found = c.in-Some-find-slot.ensures in
-    let h = c.in-ok-persist-word.ensures in
-    subst (λ z. 64 + 2 * c.in-Some-find-slot.slot < z) (sym h.done.0.made.count) (place_inside s (64 + 2 * c.in-Some-find-slot.slot) (known {m = m} k s c.in-ok-survey.ensures.opens) (omega (arith, found.0)))
+    let j = g.M.Memory.model c.persist_word.new.memory in
+    let s = c.in_ok-survey.survey in
+    let found = c.in-Some-find_slot.ensures in
+    let h = c.in_ok-persist_word.ensures in
+    subst (λ z. 64 + 2 * c.in-Some-find_slot.slot < z) (sym h.done.0.made.count) (place_inside s (64 + 2 * c.in-Some-find_slot.slot) (known {m = m} k s c.in_ok-survey.ensures.opens) (omega (arith, found.0)))
 
 pub returns : goal.returns
 returns g c =
     let m = g.M.Memory.model c.args.memory.now in
     let k = g.M.Memory.model c.open.new.memory in
-    let n = g.M.Memory.model c.persist-word-2.new.memory in
+    let n = g.M.Memory.model c.persist_word-2.new.memory in
     let name = c.args.name in
-    let x = c.name-word-word.result in
-    let s = c.in-ok-survey.survey in
-    let slot = c.in-Some-find-slot.slot in
-    let opened = c.in-ok-survey.ensures in
-    let found = c.in-Some-find-slot.ensures in
-    let zero = c.in-ok-persist-word.ensures in
-    let formed = sym c.is-well-formed.ensures ∙ c.if-not-is-well-formed.false in
+    let x = c.name_word-word.result in
+    let s = c.in_ok-survey.survey in
+    let slot = c.in-Some-find_slot.slot in
+    let opened = c.in_ok-survey.ensures in
+    let found = c.in-Some-find_slot.ensures in
+    let zero = c.in_ok-persist_word.ensures in
+    let formed = sym c.is_well_formed.ensures ∙ c.if-not-is_well_formed.false in
     let b = known {m = m} k s opened.opens in
-    let bytes = c.name-word-word.ensures.bytes in
-    let free = missing-new m.seen s.directory b.lists x c.in-default.ensures in
+    let bytes = c.name_word-word.ensures.bytes in
+    let free = missing-new m.seen s.directory b.lists x c.in_default.ensures in
     let empty = empty-slot m.seen s.directory b.lists slot found.0 found.1 in
     let change = create-change (m.count / 32) m.seen slot b.big b.clean found.0 x (ap well_formed bytes ∙ formed) empty free in
-    let call = last-phase (word (64 + (2 * slot + 1)) 0 ∷ []) (create (bytes_of x)) (64 + 2 * slot) x b.suitable (subst (λ y. early (create y) ≡ None) (sym bytes) (early-formed (well_formed name) formed)) change (done_more (looked-made b.looked) zero.done.0) (λ _. zero.done.1) n c.persist-word-2.result c.persist-word-2.ensures.done in
-    record { created = subst (λ y. SlotCall m (create y) (reply (λ _. []) c.persist-word-2.result) n) bytes call; lent = c.persist-word-2.ensures.lent ∙ zero.lent ∙ opened.lent }
+    let call = last-phase (word (64 + (2 * slot + 1)) 0 ∷ []) (create (bytes_of x)) (64 + 2 * slot) x b.suitable (subst (λ y. early (create y) ≡ None) (sym bytes) (early-formed (well_formed name) formed)) change (done_more (looked-made b.looked) zero.done.0) (λ _. zero.done.1) n c.persist_word-2.result c.persist_word-2.ensures.done in
+    record { created = subst (λ y. SlotCall m (create y) (reply (λ _. []) c.persist_word-2.result) n) bytes call; lent = c.persist_word-2.ensures.lent ∙ zero.lent ∙ opened.lent }

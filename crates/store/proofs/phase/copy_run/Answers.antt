@@ -5,46 +5,46 @@ use Rattle.store.proofs.phase.copy_run.Given as given
 use Rattle.store.proofs.phase.copy_run.Goals as goal
 use Rattle.store.proofs.phase.copy_run.Goals.{In-ok-value}
 
-pub returns-in-err-value : goal.returns-in-err-value
-returns-in-err-value g c =
+pub returns-in_err-value : goal.returns-in_err-value
+returns-in_err-value g c =
     let m = g.M.Memory.model c.args.memory.now in
-    let n = g.M.Memory.model c.load-word.new.memory in
-    let h = c.in-err-value.ensures in
+    let n = g.M.Memory.model c.load_word.new.memory in
+    let h = c.in_err-value.ensures in
     record {
-      made = storing-exit n c.in-err-value.field-0.0 c.from-residual.result c.from-residual.ensures.1 h.reads.1
+      made = storing-exit n c.in_err-value.field-0.0 c.from_residual.result c.from_residual.ensures.1 h.reads.1
           (copies-cut-load {n = n} m.seen c.args.from c.args.to c.loop-j.j c.args.count c.loop-j-test.true c.loop-j.invariant.0 h.reads.0);
       lent = h.lent ∙ c.loop-j.invariant.1;
     }
 
 -- after the load of a turn
 loaded : (g : given.Over) (c : In-ok-value g)
-    → AllMade (g.M.Memory.model c.args.memory.now) (copies (g.M.Memory.model c.args.memory.now).seen c.args.from c.args.to c.loop-j.j) (g.M.Memory.model c.load-word.new.memory)
-    × (c.in-ok-value.value ≡ (g.M.Memory.model c.args.memory.now).seen (c.args.from + c.loop-j.j))
+    → AllMade (g.M.Memory.model c.args.memory.now) (copies (g.M.Memory.model c.args.memory.now).seen c.args.from c.args.to c.loop-j.j) (g.M.Memory.model c.load_word.new.memory)
+    × (c.in_ok-value.value ≡ (g.M.Memory.model c.args.memory.now).seen (c.args.from + c.loop-j.j))
 loaded g c =
     let m = g.M.Memory.model c.args.memory.now in
     let j = c.loop-j.j in
     let before : c.args.from + j < c.args.to = omega arith in
     let inside : c.args.from + j < m.count = omega (arith, c.requires.inside) in
-    copies-loaded {m = m} {n = g.M.Memory.model c.load-word.new.memory} c.args.from c.args.to j c.in-ok-value.value before inside c.loop-j.invariant.0 c.in-ok-value.ensures.reads
+    copies-loaded {m = m} {n = g.M.Memory.model c.load_word.new.memory} c.args.from c.args.to j c.in_ok-value.value before inside c.loop-j.invariant.0 c.in_ok-value.ensures.reads
 
-pub returns-in-err-store-word : goal.returns-in-err-store-word
-returns-in-err-store-word g c =
+pub returns-in_err-store_word : goal.returns-in_err-store_word
+returns-in_err-store_word g c =
     let m = g.M.Memory.model c.args.memory.now in
-    let k = g.M.Memory.model c.load-word.new.memory in
-    let n = g.M.Memory.model c.store-word.new.memory in
-    let first = loaded g (goal.at.returns-in-err-store-word g c).In-ok-value in
-    let h = c.in-err-store-word.ensures in
-    let r = c.from-residual-in-err-store-word in
+    let k = g.M.Memory.model c.load_word.new.memory in
+    let n = g.M.Memory.model c.store_word.new.memory in
+    let first = loaded g (goal.at.returns-in_err-store_word g c).In-ok-value in
+    let h = c.in_err-store_word.ensures in
+    let r = c.from_residual-in_err-store_word in
     record {
-      made = storing-exit n c.in-err-store-word.field-0.0 r.result r.ensures.1 h.made.1
-          (copies-cut {k = k} {n = n} m.seen c.args.from c.args.to c.loop-j.j c.args.count c.in-ok-value.value c.loop-j-test.true first.0 first.1 h.made.0);
-      lent = h.lent ∙ c.in-ok-value.ensures.lent ∙ c.loop-j.invariant.1;
+      made = storing-exit n c.in_err-store_word.field-0.0 r.result r.ensures.1 h.made.1
+          (copies-cut {k = k} {n = n} m.seen c.args.from c.args.to c.loop-j.j c.args.count c.in_ok-value.value c.loop-j-test.true first.0 first.1 h.made.0);
+      lent = h.lent ∙ c.in_ok-value.ensures.lent ∙ c.loop-j.invariant.1;
     }
 
 pub loop-j-preserved : goal.loop-j-preserved
 loop-j-preserved g c =
     let m = g.M.Memory.model c.args.memory.now in
-    let k = g.M.Memory.model c.load-word.new.memory in
+    let k = g.M.Memory.model c.load_word.new.memory in
     let first = loaded g (goal.at.loop-j-preserved g c).In-ok-value in
-    let h = c.in-ok-store-word.ensures in
-    (copies-more {k = k} m.seen c.args.from c.args.to c.loop-j.j c.in-ok-value.value first.0 first.1 h.made, h.lent ∙ c.in-ok-value.ensures.lent ∙ c.loop-j.invariant.1)
+    let h = c.in_ok-store_word.ensures in
+    (copies-more {k = k} m.seen c.args.from c.args.to c.loop-j.j c.in_ok-value.value first.0 first.1 h.made, h.lent ∙ c.in_ok-value.ensures.lent ∙ c.loop-j.invariant.1)

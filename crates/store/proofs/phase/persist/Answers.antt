@@ -5,13 +5,13 @@ use Rattle.store.specs.Phase.{Within}
 use Rattle.store.proofs.Phases.{persisted-exit, cut_at, ends, within-at, so-far-none, so_far_more}
 use Rattle.store.proofs.phase.persist.Goals as goal
 
-pub store-word-requires : goal.store-word-requires
-store-word-requires g c =
+pub store_word-requires : goal.store_word-requires
+store_word-requires g c =
     within-at _ c.args.words.now c.loop-word.word-index (word 0 0) (subst (λ n. Within n c.args.words.now) (sym c.loop-word.invariant.0.made.count) c.requires) c.loop-word-test.true
 
-pub returns-in-err-store-word : goal.returns-in-err-store-word
-returns-in-err-store-word g c = let h = c.in-err-store-word.ensures in record {
-  done = persisted-exit (g.M.Memory.model c.store-word.new.memory) c.in-err-store-word.field-0.0 c.from-residual.result c.from-residual.ensures.1 h.made.1
+pub returns-in_err-store_word : goal.returns-in_err-store_word
+returns-in_err-store_word g c = let h = c.in_err-store_word.ensures in record {
+  done = persisted-exit (g.M.Memory.model c.store_word.new.memory) c.in_err-store_word.field-0.0 c.from_residual.result c.from_residual.ensures.1 h.made.1
       (cut_at c.args.words.now c.loop-word.word-index c.loop-word-test.true c.loop-word.invariant.0 h.made.0);
   lent = h.lent ∙ c.loop-word.invariant.1;
 }
@@ -21,7 +21,7 @@ loop-word-init g c = (so-far-none _, refl)
 
 pub loop-word-preserved : goal.loop-word-preserved
 loop-word-preserved g c =
-    let h = c.in-ok-store-word.ensures in
+    let h = c.in_ok-store_word.ensures in
     (rw (take_more c.args.words.now c.loop-word.word-index (word 0 0) c.loop-word-test.true) (so_far_more c.loop-word.invariant.0 h.made), h.lent ∙ c.loop-word.invariant.1)
 
 pub returns : goal.returns

@@ -6,14 +6,14 @@ use Rattle.store.specs.Read.{byte_at, bytes_from}
 use Rattle.store.proofs.Bytewise.{map-inside, block_inside, byte-same}
 use Rattle.store.proofs.read.load_bytes.Goals as goal
 
-pub load-byte-requires : goal.load-byte-requires
-load-byte-requires g c =
+pub load_byte-requires : goal.load_byte-requires
+load_byte-requires g c =
     let m = g.M.Memory.model c.args.memory.now in
     let k = g.M.Memory.model c.loop-k.memory in
     let root = c.args.root in
     let at = c.args.offset + c.loop-k.k in
     let looked = c.loop-k.invariant.0 in
-    let is = c.from-map.ensures ∙ c.from-word.ensures.map in
+    let is = c.from-map.ensures ∙ c.from_word.ensures.map in
     let within : at < length_of root = omega (arith, c.requires.inside) in
     record {
       small = omega (arith, looked.fewer.same_count, c.requires.small);
@@ -21,12 +21,12 @@ load-byte-requires g c =
       block = block_inside {m = m} {k = k} root c.from-map.result at looked is within c.requires.map c.requires.length c.requires.good;
     }
 
-pub returns-in-err-out : goal.returns-in-err-out
-returns-in-err-out g c =
+pub returns-in_err-out : goal.returns-in_err-out
+returns-in_err-out g c =
     let m = g.M.Memory.model c.args.memory.now in
-    let h = c.in-err-out.ensures in
+    let h = c.in_err-out.ensures in
     record {
-      reads = reads_exit (g.M.Memory.model c.load-byte.new.memory) (λ _. c.loop-k.out ≡ bytes_from m.seen (map_of c.args.root) c.args.offset (length c.args.out.now)) c.in-err-out.field-0.0 c.from-residual.result c.from-residual.ensures.1 h.reads.1
+      reads = reads_exit (g.M.Memory.model c.load_byte.new.memory) (λ _. c.loop-k.out ≡ bytes_from m.seen (map_of c.args.root) c.args.offset (length c.args.out.now)) c.in_err-out.field-0.0 c.from_residual.result c.from_residual.ensures.1 h.reads.1
           (looked-down c.loop-k.invariant.0 h.reads.0);
       lent = h.lent ∙ c.loop-k.invariant.1;
     }
@@ -38,13 +38,13 @@ loop-k-preserved g c =
     let root = c.args.root in
     let at = c.args.offset + c.loop-k.k in
     let inv = c.loop-k.invariant in
-    let h = c.in-ok-out.ensures in
-    let is = c.from-map.ensures ∙ c.from-word.ensures.map in
+    let h = c.in_ok-out.ensures in
+    let is = c.from-map.ensures ∙ c.from_word.ensures.map in
     let within : at < length_of root = omega (arith, c.requires.inside) in
     let same = byte-same {m = m} {k = k} root c.from-map.result at inv.0 is within c.requires.map c.requires.length c.requires.good in (
       looked-more inv.0 h.reads.0,
       h.lent ∙ inv.1,
-      filled (λ j. byte_at m.seen (map_of root) (c.args.offset + j)) c.loop-k.out c.loop-k.k c.in-ok-out.field-0 (omega (arith, c.loop-k.auto.out)) (h.reads.1 ∙ same) inv.2,
+      filled (λ j. byte_at m.seen (map_of root) (c.args.offset + j)) c.loop-k.out c.loop-k.k c.in_ok-out.field-0 (omega (arith, c.loop-k.auto.out)) (h.reads.1 ∙ same) inv.2,
     )
 
 pub returns : goal.returns

@@ -6,14 +6,14 @@ use Rattle.store.proofs.Bytewise.{read-early, file-map, file-length, file-small,
 use Rattle.store.proofs.Calling.{known, file-exit}
 use Rattle.store.proofs.read.read_into.Goals as goal
 
-pub returns-in-err-survey : goal.returns-in-err-survey
-returns-in-err-survey g c =
+pub returns-in_err-survey : goal.returns-in_err-survey
+returns-in_err-survey g c =
     let n = g.M.Memory.model c.open.new.memory in
     let count = length c.args.buffer.now in
-    let e = c.in-err-survey.field-0.0 in
-    let r = c.from-residual in
-    let h = c.in-err-survey.ensures in
-    let formed = sym c.if-not-is-well-formed.ensures in
+    let e = c.in_err-survey.field-0.0 in
+    let r = c.from_residual in
+    let h = c.in_err-survey.ensures in
+    let formed = sym c.if-not-is_well_formed.ensures in
     record {
       called = file-exit n (read c.args.name c.args.offset count) (λ x. x ∷ []) e r.result r.ensures.1 (read-early c.args.name c.args.offset count formed) h.opens;
       quiet = opens-quiet n e h.opens;
@@ -21,35 +21,35 @@ returns-in-err-survey g c =
       lent = h.lent;
     }
 
-pub returns-in-default : goal.returns-in-default
-returns-in-default g c =
+pub returns-in_default : goal.returns-in_default
+returns-in_default g c =
     let k = g.M.Memory.model c.open.new.memory in
-    let s = c.in-ok-survey.survey in
-    let h = c.in-ok-survey.ensures in
+    let s = c.in_ok-survey.survey in
+    let h = c.in_ok-survey.ensures in
     let b = known k s h.opens in
-    let formed = sym c.if-not-is-well-formed.ensures in
+    let formed = sym c.if-not-is_well_formed.ensures in
     record {
-      called = file-none s c.args.name c.args.offset (length c.args.buffer.now) c.name-word.result b formed c.name-word.ensures.bytes c.in-default.ensures;
+      called = file-none s c.args.name c.args.offset (length c.args.buffer.now) c.name_word.result b formed c.name_word.ensures.bytes c.in_default.ensures;
       quiet = inr (inl b.looked);
       given = tt;
       lent = h.lent;
     }
 
-pub load-bytes-requires : goal.load-bytes-requires
-load-bytes-requires g c =
+pub load_bytes-requires : goal.load_bytes-requires
+load_bytes-requires g c =
     let k = g.M.Memory.model c.open.new.memory in
-    let s = c.in-ok-survey.survey in
+    let s = c.in_ok-survey.survey in
     let slot = c.in-Some.slot in
     let root = get_or s.directory.roots slot 0 in
-    let word = c.name-word.result in
-    let b = known k s c.in-ok-survey.ensures.opens in
-    let formed = sym c.if-not-is-well-formed.ensures in
-    let bytes = c.name-word.ensures.bytes in
+    let word = c.name_word.result in
+    let b = known k s c.in_ok-survey.ensures.opens in
+    let formed = sym c.if-not-is_well_formed.ensures in
+    let bytes = c.name_word.ensures.bytes in
     let found = c.in-Some.ensures in
     let old = c.args.buffer.now in
     let given = c.min-given.result in
     let is : given ≡ min (length old) (length_of root - c.args.offset) = omega arith in
-    let front = front_length given old c.clear-bytes.new.out (omega arith) in
+    let front = front_length given old c.clear_bytes.new.out (omega arith) in
     record {
       up = b.looked.up;
       small = file-small s c.args.name slot word root b formed bytes found refl;
@@ -59,19 +59,19 @@ load-bytes-requires g c =
       inside = omega arith;
     }
 
-pub returns-in-err-load-bytes : goal.returns-in-err-load-bytes
-returns-in-err-load-bytes g c =
+pub returns-in_err-load_bytes : goal.returns-in_err-load_bytes
+returns-in_err-load_bytes g c =
     let m = g.M.Memory.model c.args.memory.now in
     let k = g.M.Memory.model c.open.new.memory in
-    let n = g.M.Memory.model c.load-bytes.new.memory in
-    let s = c.in-ok-survey.survey in
-    let first = c.in-ok-survey.ensures in
+    let n = g.M.Memory.model c.load_bytes.new.memory in
+    let s = c.in_ok-survey.survey in
+    let first = c.in_ok-survey.ensures in
     let b = known k s first.opens in
     let count = length c.args.buffer.now in
-    let e = c.in-err-load-bytes.field-0.0 in
-    let r = c.from-residual-in-err-load-bytes in
-    let h = c.in-err-load-bytes.ensures in
-    let formed = sym c.if-not-is-well-formed.ensures in
+    let e = c.in_err-load_bytes.field-0.0 in
+    let r = c.from_residual-in_err-load_bytes in
+    let h = c.in_err-load_bytes.ensures in
+    let formed = sym c.if-not-is_well_formed.ensures in
     record {
       called = file-cut n s (read c.args.name c.args.offset count) (λ x. x ∷ []) e r.result r.ensures.1 h.reads.1 (read-early c.args.name c.args.offset count formed) b h.reads.0;
       quiet = inr (inr (looked-down b.looked h.reads.0));
@@ -82,22 +82,22 @@ returns-in-err-load-bytes g c =
 pub returns : goal.returns
 returns g c =
     let k = g.M.Memory.model c.open.new.memory in
-    let s = c.in-ok-survey.survey in
+    let s = c.in_ok-survey.survey in
     let slot = c.in-Some.slot in
     let root = get_or s.directory.roots slot 0 in
-    let word = c.name-word.result in
-    let first = c.in-ok-survey.ensures in
+    let word = c.name_word.result in
+    let first = c.in_ok-survey.ensures in
     let b = known k s first.opens in
-    let formed = sym c.if-not-is-well-formed.ensures in
-    let bytes = c.name-word.ensures.bytes in
+    let formed = sym c.if-not-is_well_formed.ensures in
+    let bytes = c.name_word.ensures.bytes in
     let found = c.in-Some.ensures in
     let old = c.args.buffer.now in
     let given = c.min-given.result in
-    let h = c.in-ok-load-bytes.ensures in
+    let h = c.in_ok-load_bytes.ensures in
     let is : given ≡ min (length old) (length_of root - c.args.offset) = omega arith in
     record {
       called = file-done s c.args.name slot word root b formed bytes found refl c.args.offset (length old) given is h.reads.0;
       quiet = inr (inl (looked-more b.looked h.reads.0));
-      given = file-filled s c.args.name slot word root b formed bytes found refl c.args.offset c.from.result given old c.load-bytes.new.out c.clear-bytes.new.out is c.from.ensures h.reads.1 c.clear-bytes.ensures;
+      given = file-filled s c.args.name slot word root b formed bytes found refl c.args.offset c.from.result given old c.load_bytes.new.out c.clear_bytes.new.out is c.from.ensures h.reads.1 c.clear_bytes.ensures;
       lent = h.lent ∙ first.lent;
     }

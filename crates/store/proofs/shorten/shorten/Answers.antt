@@ -14,24 +14,24 @@ use Rattle.store.proofs.Phasing.{last-phase}
 use Rattle.store.proofs.Recovery.{looked-settled}
 use Rattle.store.proofs.shorten.shorten.Goals as goal
 
-pub returns-in-err-survey : goal.returns-in-err-survey
-returns-in-err-survey g c =
+pub returns-in_err-survey : goal.returns-in_err-survey
+returns-in_err-survey g c =
     let a = shorten c.args.name c.args.length in
-    let formed = sym c.is-well-formed.ensures ∙ c.if-not-is-well-formed.false in
-    let h = c.in-err-survey.ensures in
-    record { shortened = slot-exit (g.M.Memory.model c.open.new.memory) a c.in-err-survey.field-0.0 c.from-residual.result c.from-residual.ensures.1 (early-formed (well_formed c.args.name) formed) h.opens; lent = h.lent }
+    let formed = sym c.is_well_formed.ensures ∙ c.if-not-is_well_formed.false in
+    let h = c.in_err-survey.ensures in
+    record { shortened = slot-exit (g.M.Memory.model c.open.new.memory) a c.in_err-survey.field-0.0 c.from_residual.result c.from_residual.ensures.1 (early-formed (well_formed c.args.name) formed) h.opens; lent = h.lent }
 
-pub returns-in-default : goal.returns-in-default
-returns-in-default g c =
+pub returns-in_default : goal.returns-in_default
+returns-in_default g c =
     let m = g.M.Memory.model c.args.memory.now in
     let k = g.M.Memory.model c.open.new.memory in
     let name = c.args.name in
     let a = shorten name c.args.length in
-    let s = c.in-ok-survey.survey in
-    let h = c.in-ok-survey.ensures in
-    let formed = sym c.is-well-formed.ensures ∙ c.if-not-is-well-formed.false in
+    let s = c.in_ok-survey.survey in
+    let h = c.in_ok-survey.ensures in
+    let formed = sym c.is_well_formed.ensures ∙ c.if-not-is_well_formed.false in
     let b = known {m = m} k s h.opens in
-    let none = missing-none m.seen s.directory b.lists c.name-word.result name c.in-default.ensures c.name-word.ensures.bytes in
+    let none = missing-none m.seen s.directory b.lists c.name_word.result name c.in_default.ensures c.name_word.ensures.bytes in
     record { shortened = slot-refused a NoFile (answered-refused s a NoFile b (early-formed (well_formed name) formed) (shorten-missing (table_of m.seen) name formed c.args.length none)); lent = h.lent }
 
 pub returns-then-length-root : goal.returns-then-length-root
@@ -40,49 +40,49 @@ returns-then-length-root g c =
     let k = g.M.Memory.model c.open.new.memory in
     let name = c.args.name in
     let a = shorten name c.args.length in
-    let s = c.in-ok-survey.survey in
+    let s = c.in_ok-survey.survey in
     let slot = c.in-Some.slot in
-    let h = c.in-ok-survey.ensures in
+    let h = c.in_ok-survey.ensures in
     let found = c.in-Some.ensures in
-    let formed = sym c.is-well-formed.ensures ∙ c.if-not-is-well-formed.false in
+    let formed = sym c.is_well_formed.ensures ∙ c.if-not-is_well_formed.false in
     let b = known {m = m} k s h.opens in
-    let some = look_up (m.count / 32) m.seen s.directory b.big b.clean b.lists slot c.name-word.result name formed found.0 found.1 c.name-word.ensures.bytes in
-    let long = c.from-word-root.ensures.length ∙ ap length_of (b.lists.roots slot found.0) ∙ sym (bytes-length m.seen (root_word m.seen slot)) in
+    let some = look_up (m.count / 32) m.seen s.directory b.big b.clean b.lists slot c.name_word.result name formed found.0 found.1 c.name_word.ensures.bytes in
+    let long = c.from_word-root.ensures.length ∙ ap length_of (b.lists.roots slot found.0) ∙ sym (bytes-length m.seen (root_word m.seen slot)) in
     record {
       shortened = slot-refused a TooLong (answered-refused s a TooLong b (early-formed (well_formed name) formed) (shorten-long (table_of m.seen) name formed c.args.length (file_bytes m.seen (root_word m.seen slot)) some (subst (λ x. x < c.args.length) long c.if-length-root.true)));
       lent = h.lent;
     }
 
-pub persist-word-requires : goal.persist-word-requires
-persist-word-requires g c =
+pub persist_word-requires : goal.persist_word-requires
+persist_word-requires g c =
     let m = g.M.Memory.model c.args.memory.now in
     let k = g.M.Memory.model c.open.new.memory in
-    let s = c.in-ok-survey.survey in
+    let s = c.in_ok-survey.survey in
     let found = c.in-Some.ensures in
-    place_inside s (64 + (2 * c.in-Some.slot + 1)) (known {m = m} k s c.in-ok-survey.ensures.opens) (omega (arith, found.0))
+    place_inside s (64 + (2 * c.in-Some.slot + 1)) (known {m = m} k s c.in_ok-survey.ensures.opens) (omega (arith, found.0))
 
 pub returns : goal.returns
 returns g c =
     let m = g.M.Memory.model c.args.memory.now in
     let k = g.M.Memory.model c.open.new.memory in
-    let n = g.M.Memory.model c.persist-word.new.memory in
+    let n = g.M.Memory.model c.persist_word.new.memory in
     let name = c.args.name in
     let len = c.args.length in
-    let s = c.in-ok-survey.survey in
+    let s = c.in_ok-survey.survey in
     let slot = c.in-Some.slot in
-    let h = c.in-ok-survey.ensures in
+    let h = c.in_ok-survey.ensures in
     let found = c.in-Some.ensures in
-    let formed = sym c.is-well-formed.ensures ∙ c.if-not-is-well-formed.false in
+    let formed = sym c.is_well_formed.ensures ∙ c.if-not-is_well_formed.false in
     let b = known {m = m} k s h.opens in
-    let bytes = c.name-word.ensures.bytes in
+    let bytes = c.name_word.ensures.bytes in
     let root_is = b.lists.roots slot found.0 in
-    let named = found-named m.seen s.directory b.lists c.name-word.result slot name found.0 found.1 bytes formed in
-    let is = found_name m.seen s.directory b.lists c.name-word.result slot name found.0 found.1 bytes in
-    let less : len ≤ length_of (root_word m.seen slot) = subst (λ x. len ≤ x) (c.from-word-root.ensures.length ∙ ap length_of root_is) c.if-length-root.false in
+    let named = found-named m.seen s.directory b.lists c.name_word.result slot name found.0 found.1 bytes formed in
+    let is = found_name m.seen s.directory b.lists c.name_word.result slot name found.0 found.1 bytes in
+    let less : len ≤ length_of (root_word m.seen slot) = subst (λ x. len ≤ x) (c.from_word-root.ensures.length ∙ ap length_of root_is) c.if-length-root.false in
     let change = shorten-change (m.count / 32) m.seen slot b.big b.clean found.0 name len formed named is less in
-    let value : c.short-root.result ≡ short_root (root_word m.seen slot) len = c.short-root.ensures ∙ ap (λ x. cond (eqb len 0) 0 (x + 2 ^ 32 * len)) (c.from-word-root.ensures.map ∙ ap (λ x. x % 2 ^ 16) root_is) in
+    let value : c.short_root.result ≡ short_root (root_word m.seen slot) len = c.short_root.ensures ∙ ap (λ x. cond (eqb len 0) 0 (x + 2 ^ 32 * len)) (c.from_word-root.ensures.map ∙ ap (λ x. x % 2 ^ 16) root_is) in
     record {
-      shortened = last-phase [] (shorten name len) (64 + (2 * slot + 1)) (short_root (root_word m.seen slot) len) b.suitable (early-formed (well_formed name) formed) change (looked-made b.looked) (looked-settled b.looked) n c.persist-word.result
-          (subst (λ x. Persisted k (word (64 + (2 * slot + 1)) x ∷ []) c.persist-word.result n) value c.persist-word.ensures.done);
-      lent = c.persist-word.ensures.lent ∙ h.lent;
+      shortened = last-phase [] (shorten name len) (64 + (2 * slot + 1)) (short_root (root_word m.seen slot) len) b.suitable (early-formed (well_formed name) formed) change (looked-made b.looked) (looked-settled b.looked) n c.persist_word.result
+          (subst (λ x. Persisted k (word (64 + (2 * slot + 1)) x ∷ []) c.persist_word.result n) value c.persist_word.ensures.done);
+      lent = c.persist_word.ensures.lent ∙ h.lent;
     }

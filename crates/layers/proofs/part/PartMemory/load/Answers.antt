@@ -9,5 +9,5 @@ returns g c = record {
   gives = part-load c.args.self.now.run.first c.args.self.now.run.count (g.M.Memory.model c.args.self.now.below) (g.M.Memory.model c.load.new.self) c.args.at c.load.result (omega arith) c.load.ensures.gives;
   same = c.load.ensures.same;
   run = refl;
-  below = does (part_model c.args.self.now.run.first c.args.self.now.run.count (g.M.Memory.model c.args.self.now.below)) c.args.at c.args.self.now.below c.load.new.self c.if-not-is-up.ensures (omega arith) c.load.ensures.gives;
+  below = does (part_model c.args.self.now.run.first c.args.self.now.run.count (g.M.Memory.model c.args.self.now.below)) c.args.at c.args.self.now.below c.load.new.self c.if-not-is_up.ensures (omega arith) c.load.ensures.gives;
 }

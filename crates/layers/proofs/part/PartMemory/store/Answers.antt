@@ -9,5 +9,5 @@ returns g c = record {
   gives = part-store c.args.self.now.run.first c.args.self.now.run.count (g.M.Memory.model c.args.self.now.below) (g.M.Memory.model c.store.new.self) c.args.at c.args.value c.store.result (omega arith) c.store.ensures.gives;
   same = c.store.ensures.same;
   run = refl;
-  below = does (part_model c.args.self.now.run.first c.args.self.now.run.count (g.M.Memory.model c.args.self.now.below)) c.args.at c.args.self.now.below c.store.new.self c.if-not-is-up.ensures (omega arith) c.store.ensures.gives;
+  below = does (part_model c.args.self.now.run.first c.args.self.now.run.count (g.M.Memory.model c.args.self.now.below)) c.args.at c.args.self.now.below c.store.new.self c.if-not-is_up.ensures (omega arith) c.store.ensures.gives;
 }

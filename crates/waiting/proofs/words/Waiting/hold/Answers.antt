@@ -2,12 +2,12 @@ use Rattle.std.proofs.Common.{◌≡◌, length, sym, arith, rules}
 use Rattle.waiting.proofs.Newest.{newest-below, hold-replaced, hold-shifted}
 use Rattle.waiting.proofs.words.Waiting.hold.Goals as goal
 
-pub overflow-add-word : goal.overflow-add-word
-overflow-add-word c =
+pub overflow_add-word : goal.overflow_add-word
+overflow_add-word c =
     let below = newest-below c.args.self.now.free c.args.self.now.words c.args.at c.in-Some.k (sym c.in-Some.ensures) in search rules
 
-pub offset-bounds-self-self : goal.offset-bounds-self-self
-offset-bounds-self-self c =
+pub offset_bounds-self-self : goal.offset_bounds-self-self
+offset_bounds-self-self c =
     let below = newest-below c.args.self.now.free c.args.self.now.words c.args.at c.in-Some.k (sym c.in-Some.ensures) in search rules
 
 pub bounds-self-self : goal.bounds-self-self
@@ -21,4 +21,4 @@ returns-in-Some c =
 pub returns-in-None : goal.returns-in-None
 returns-in-None c =
     let eight : length c.args.self.now.words ≡ 8 = search rules in
-    hold-shifted c.args.self.now.free c.min-self.result c.args.self.now.words c.rotate-left.new.self c.args.at c.args.value (sym c.in-None.ensures) eight c.rotate-left.ensures.after (omega arith)
+    hold-shifted c.args.self.now.free c.min-self.result c.args.self.now.words c.rotate_left.new.self c.args.at c.args.value (sym c.in-None.ensures) eight c.rotate_left.ensures.after (omega arith)

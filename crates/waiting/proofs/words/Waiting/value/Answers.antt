@@ -2,12 +2,12 @@ use Rattle.std.proofs.Common.{sym, rules}
 use Rattle.waiting.proofs.Newest.{newest-below, value-waits}
 use Rattle.waiting.proofs.words.Waiting.value.Goals as goal
 
-pub overflow-add-result : goal.overflow-add-result
-overflow-add-result c =
+pub overflow_add-result : goal.overflow_add-result
+overflow_add-result c =
     let below = newest-below c.args.self.now.free c.args.self.now.words c.args.at c.in-Some.k (sym c.in-Some.ensures) in search rules
 
-pub offset-bounds-self-self : goal.offset-bounds-self-self
-offset-bounds-self-self c =
+pub offset_bounds-self-self : goal.offset_bounds-self-self
+offset_bounds-self-self c =
     let below = newest-below c.args.self.now.free c.args.self.now.words c.args.at c.in-Some.k (sym c.in-Some.ensures) in search rules
 
 pub bounds-self-self : goal.bounds-self-self

@@ -6,8 +6,8 @@ use Rattle.media.proofs.lagging.words.LaggingMemoryMemory.barrier.Goals as goal
 pub returns : goal.returns
 returns c =
     let seen = vec_items c.args.self.now.seen in
-    let kept = vec_items c.copy-from-slice.new.self in
-    let took = c.in-ok-admit.ensures.value in
+    let kept = vec_items c.copy_from_slice.new.self in
+    let took = c.in_ok-admit.ensures.value in
     let copied : kept ≡ seen = cc in
     let one = only_seen seen kept copied in
     record {

@@ -7,7 +7,7 @@ use Rattle.memory.specs.Model.{Model}
 use Rattle.layout.specs.Image.{table_of}
 use Rattle.layout.specs.Names.{well_formed}
 use Rattle.layout.specs.Table.{Table, Reply, answer, buffer, done, find, read, refuse}
-use Rattle.check.specs.Size.{suits}
+use Rattle.image_check.specs.Size.{suits}
 use Rattle.store.specs.Calls.{FileCall, broken}
 use Rattle.console.specs.Answers.{MayShow}
 use Rattle.console.specs.declared.answer.Answer.{Answer}

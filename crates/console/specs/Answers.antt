@@ -1,8 +1,8 @@
 -- What an answer says: a number, 0 for done, and the value that it carries, if any.
 use Rattle.std.specs.Prelude.{◌≡◌, ℕ, ◌≤◌, Bool, cond, ◌⊎◌, Some, None, Ok, Err, Option, Result}
-use Rattle.check.specs.Answers.{number}
-use Rattle.check.specs.declared.refusal.Refusal.{Refusal}
-use Rattle.check.specs.declared.refusal.Refusal.TheVariants.{PowerLost, BadImage, BadName, NoFile, NameTaken, TooManyFiles, TooLong, WrongSize}
+use Rattle.image_check.specs.Answers.{number}
+use Rattle.image_check.specs.declared.refusal.Refusal.{Refusal}
+use Rattle.image_check.specs.declared.refusal.Refusal.TheVariants.{PowerLost, BadImage, BadName, NoFile, NameTaken, TooManyFiles, TooLong, WrongSize}
 use Rattle.console.specs.declared.answer.Answer.{Answer}
 
 -- a number that carries nothing

@@ -7,7 +7,7 @@ use Rattle.store.specs.Calls.{SlotCall, FileCall, reply}
 use Rattle.store.specs.Format.{Formats}
 use Rattle.store.specs.Read.{Quiet}
 use Rattle.store.specs.Recover.{Recovers}
-use Rattle.check.specs.declared.refusal.Refusal.{Refusal}
+use Rattle.image_check.specs.declared.refusal.Refusal.{Refusal}
 use Rattle.console.specs.Answers.{plain, answered, nothing, put_back, gave}
 use Rattle.console.specs.Commands.{letter, parsed, asks_too_much}
 use Rattle.console.specs.Lines.{line, written}

@@ -1,7 +1,7 @@
 ghost use Rattle.std.specs.Prelude.{◌≡◌};
 ghost use Rattle.console.specs.Answers.{answered, nothing, plain, refused};
 
-use check::refusal::Refusal;
+use image_check::refusal::Refusal;
 
 // the number of a command that was done
 pub const DONE: u8 = 0;

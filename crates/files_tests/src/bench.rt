@@ -1,4 +1,4 @@
-use check::refusal::Refusal;
+use image_check::refusal::Refusal;
 use memory::memory::Memory;
 use std::test::Fail;
 use store::names::{create, remove, rename};

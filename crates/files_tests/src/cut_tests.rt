@@ -1,5 +1,5 @@
 use crate::bench::{A, B, C, Call, File, has_only, make, store_words};
-use check::refusal::Refusal;
+use image_check::refusal::Refusal;
 use layers::cache::Cache;
 use media::byte_image::ByteImage;
 use media::lagging::LaggingMemory;

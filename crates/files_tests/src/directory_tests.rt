@@ -1,7 +1,7 @@
 use crate::bench::{
     A, B, C, Call, File, count_files, empty, has_file, has_only, make, store_words,
 };
-use check::refusal::Refusal;
+use image_check::refusal::Refusal;
 use media::byte_image::ByteImage;
 use memory::memory::Memory;
 use std::process::Abort;

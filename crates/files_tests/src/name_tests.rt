@@ -1,5 +1,5 @@
 use crate::bench::{Call, count_files, empty, has_file, make};
-use check::refusal::Refusal;
+use image_check::refusal::Refusal;
 use media::byte_image::ByteImage;
 use memory::memory::Memory;
 use std::process::Abort;

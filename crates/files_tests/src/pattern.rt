@@ -1,5 +1,5 @@
 use crate::bench::B;
-use check::refusal::Refusal;
+use image_check::refusal::Refusal;
 use memory::memory::Memory;
 use std::process::Abort;
 use std::test::Fail;

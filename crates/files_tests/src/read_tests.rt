@@ -1,6 +1,6 @@
 use crate::bench::{A, B, C, store_words};
 use crate::pattern::{OLD, check_bytes, check_read, fill, read_first};
-use check::refusal::Refusal;
+use image_check::refusal::Refusal;
 use media::byte_image::ByteImage;
 use memory::cut_point::CutPoint;
 use memory::memory::Memory;

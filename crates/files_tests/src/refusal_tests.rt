@@ -1,6 +1,6 @@
 use crate::bench::{A, B, C, Call, make, store_words};
-use check::image::check_image;
-use check::refusal::Refusal;
+use image_check::image::check_image;
+use image_check::refusal::Refusal;
 use media::byte_image::ByteImage;
 use memory::memory::Memory;
 use std::process::Abort;

@@ -1,6 +1,6 @@
 use crate::bench::{A, B};
 use crate::pattern::{check_read, fill};
-use check::refusal::Refusal;
+use image_check::refusal::Refusal;
 use media::byte_image::ByteImage;
 use memory::memory::Memory;
 use std::process::Abort;

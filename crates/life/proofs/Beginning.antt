@@ -15,9 +15,9 @@ use Rattle.images.proofs.Lists.{joined_same}
 use Rattle.images.proofs.Rearranging.{rearranged-refl}
 use Rattle.images.proofs.Slots.{no-file}
 use Rattle.layout.specs.Lists.{Rearranged}
-use Rattle.check.specs.Size.{suits}
-use Rattle.check.proofs.Sizing.{size-blocks}
-use Rattle.check.specs.declared.refusal.Refusal.{Refusal}
+use Rattle.image_check.specs.Size.{suits}
+use Rattle.image_check.proofs.Sizing.{size-blocks}
+use Rattle.image_check.specs.declared.refusal.Refusal.{Refusal}
 use Rattle.store.specs.Format.{formatted, Formatted, Formats}
 use Rattle.life.specs.Asked.{Asked, restart, asked}
 use Rattle.life.specs.Life.{Event, is_done, ready_after, ready, Explained, begins, empty, Lived}

@@ -9,11 +9,11 @@ use Rattle.layout.specs.Log.{Clean, FirstBroken, Holds, LeadsTo}
 use Rattle.images.proofs.Frame.{same-sound, same-holds}
 use Rattle.images.proofs.Holding.{holds-answer, holds_after, clean-leads}
 use Rattle.layout.specs.Table.{Table, Ask, Reply, done, refuse, early, answer, after}
-use Rattle.check.specs.Reading.{Looked}
-use Rattle.check.specs.Size.{suits}
-use Rattle.check.specs.declared.refusal.Refusal.{Refusal}
-use Rattle.check.specs.declared.refusal.Refusal.TheVariants.{PowerLost, BadImage, BadName, NoFile, NameTaken, TooManyFiles, TooLong, WrongSize}
-use Rattle.check.proofs.Sizing.{size-blocks}
+use Rattle.image_check.specs.Reading.{Looked}
+use Rattle.image_check.specs.Size.{suits}
+use Rattle.image_check.specs.declared.refusal.Refusal.{Refusal}
+use Rattle.image_check.specs.declared.refusal.Refusal.TheVariants.{PowerLost, BadImage, BadName, NoFile, NameTaken, TooManyFiles, TooLong, WrongSize}
+use Rattle.image_check.proofs.Sizing.{size-blocks}
 use Rattle.store.specs.Calls.{reply, CallCut, Answered, Took, FileCall}
 use Rattle.store.specs.Phase.{Drawn}
 use Rattle.store.specs.Recover.{RecoverDone, RecoverCut, Recovering}

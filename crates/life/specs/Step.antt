@@ -3,7 +3,7 @@ use Rattle.std.specs.Prelude.{◌≡◌, ℕ, Bool, true, false, cond, List, [],
 use Rattle.memory.specs.Model.{Model, Restarted}
 use Rattle.layout.specs.Image.{table_of}
 use Rattle.layout.specs.Table.{Ask, create, write, read, shorten, rename, remove, Reply, done, refuse, buffer}
-use Rattle.check.specs.declared.refusal.Refusal.{Refusal}
+use Rattle.image_check.specs.declared.refusal.Refusal.{Refusal}
 use Rattle.store.specs.Calls.{FileCall, reply}
 use Rattle.store.specs.Recover.{Recovers}
 use Rattle.life.specs.Asked.{Asked, restart, recover, file}

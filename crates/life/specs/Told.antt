@@ -2,7 +2,7 @@
 use Rattle.std.specs.Prelude.{◌≡◌, ℕ, List, [], ◌∷◌, ◌++◌, length, Some, None, Ok, Err, Option, Result}
 use Rattle.memory.specs.Model.{Model}
 use Rattle.layout.specs.Table.{Reply}
-use Rattle.check.specs.declared.refusal.Refusal.{Refusal}
+use Rattle.image_check.specs.declared.refusal.Refusal.{Refusal}
 use Rattle.store.specs.Format.{Formats}
 use Rattle.life.specs.Asked.{Asked, asked}
 use Rattle.life.specs.Life.{Event, latest, Lived}

@@ -4,7 +4,7 @@ ghost use Rattle.store.specs.Calls.{refused_reply, reply};
 ghost use Rattle.life.specs.Step.{put_back};
 ghost use Rattle.life.specs.Told.{reply_of};
 
-use check::refusal::Refusal;
+use image_check::refusal::Refusal;
 
 // What a call is answered by: a number, 0 for done, and the value that it carries.
 #[derive(Clone, Copy, PartialEq, Eq, Debug)]

@@ -8,7 +8,7 @@ use crate::answer::Answer;
 use crate::call::Call;
 use crate::step::{ready_after, step};
 use crate::witness::Witness;
-use check::refusal::Refusal;
+use image_check::refusal::Refusal;
 use memory::memory::Memory;
 use piles::pile::Pile;
 use store::format::format;

@@ -23,15 +23,15 @@ use Rattle.images.proofs.Holding.{holds-own}
 use Rattle.images.proofs.Lists.{map_same}
 use Rattle.images.proofs.Pieces.{slot-data}
 use Rattle.images.proofs.Slots.{find_none, find-slot, bytes-length}
-use Rattle.check.specs.Answers.{RefusedBy}
-use Rattle.check.specs.Check.{MapGood}
-use Rattle.check.specs.Reading.{Looked, LookedDown}
-use Rattle.check.specs.Size.{suits}
-use Rattle.check.specs.declared.image.Survey.{Survey}
-use Rattle.check.specs.declared.refusal.Refusal.{Refusal}
-use Rattle.check.specs.declared.refusal.Refusal.TheVariants.{PowerLost, BadImage, BadName, NoFile, NameTaken, TooManyFiles, TooLong, WrongSize}
-use Rattle.check.proofs.Looking.{looked-more, looked-down}
-use Rattle.check.proofs.Mapping.{root-fits, good-after}
+use Rattle.image_check.specs.Answers.{RefusedBy}
+use Rattle.image_check.specs.Check.{MapGood}
+use Rattle.image_check.specs.Reading.{Looked, LookedDown}
+use Rattle.image_check.specs.Size.{suits}
+use Rattle.image_check.specs.declared.image.Survey.{Survey}
+use Rattle.image_check.specs.declared.refusal.Refusal.{Refusal}
+use Rattle.image_check.specs.declared.refusal.Refusal.TheVariants.{PowerLost, BadImage, BadName, NoFile, NameTaken, TooManyFiles, TooLong, WrongSize}
+use Rattle.image_check.proofs.Looking.{looked-more, looked-down}
+use Rattle.image_check.proofs.Mapping.{root-fits, good-after}
 use Rattle.store.specs.Calls.{reply, refused_reply, Changed, FileCall, Opens}
 use Rattle.store.specs.Read.{byte_at, bytes_from, Quiet, Given}
 use Rattle.store.proofs.Calling.{Known, taken-call, looked-cut, answered-refused}

@@ -9,14 +9,14 @@ use Rattle.layout.specs.Image.{Same, table_of}
 use Rattle.layout.specs.Log.{Clean, FirstBusy, Holds, LeadsTo}
 use Rattle.layout.specs.Table.{Table, Ask, Reply, refuse, early, answer, after}
 use Rattle.images.proofs.Holding.{holds-own, clean-leads}
-use Rattle.check.specs.Answers.{RefusedBy}
-use Rattle.check.specs.Directory.{Lists}
-use Rattle.check.specs.Reading.{Looked, LookedDown}
-use Rattle.check.specs.Size.{suits}
-use Rattle.check.specs.declared.image.Survey.{Survey}
-use Rattle.check.specs.declared.refusal.Refusal.{Refusal}
-use Rattle.check.specs.declared.refusal.Refusal.TheVariants.{PowerLost, BadImage, BadName, NoFile, NameTaken, TooManyFiles, TooLong, WrongSize}
-use Rattle.check.proofs.Sizing.{size-blocks}
+use Rattle.image_check.specs.Answers.{RefusedBy}
+use Rattle.image_check.specs.Directory.{Lists}
+use Rattle.image_check.specs.Reading.{Looked, LookedDown}
+use Rattle.image_check.specs.Size.{suits}
+use Rattle.image_check.specs.declared.image.Survey.{Survey}
+use Rattle.image_check.specs.declared.refusal.Refusal.{Refusal}
+use Rattle.image_check.specs.declared.refusal.Refusal.TheVariants.{PowerLost, BadImage, BadName, NoFile, NameTaken, TooManyFiles, TooLong, WrongSize}
+use Rattle.image_check.proofs.Sizing.{size-blocks}
 use Rattle.store.specs.Calls.{broken, refused_reply, reply, CallCut, Changed, Answered, Took, FileCall, SlotCall, Opened, Opens}
 use Rattle.store.specs.Phase.{Drawn, AllMade, CutIn}
 use Rattle.store.proofs.Phases.{cut-looked}

@@ -14,8 +14,8 @@ use Rattle.images.proofs.Naming.{New, removing, renaming, clearing, creating}
 use Rattle.images.proofs.Rearranging.{rearranged-refl}
 use Rattle.images.proofs.Shortening.{shortening}
 use Rattle.images.proofs.Slots.{find-slot, find_none, slots-full, slots-room, bytes-length}
-use Rattle.check.specs.Directory.{Lists}
-use Rattle.check.specs.declared.reading.Directory.{Directory}
+use Rattle.image_check.specs.Directory.{Lists}
+use Rattle.image_check.specs.declared.reading.Directory.{Directory}
 use Rattle.store.proofs.Phasing.{SlotChange}
 
 same-items : {X : Type 0} {xs ys : List X} → xs ≡ ys → Rearranged xs ys

@@ -5,9 +5,9 @@ use Rattle.memory.specs.Model.{Model, In, Settled}
 use Rattle.memory.specs.Stores.{Words, word, one, put, values_at, Made}
 use Rattle.memory.specs.declared.word.Word.{Word}
 use Rattle.memory.proofs.Putting.{up-down, in_left, in_right, in_either, put-append, values_at-append, values-either}
-use Rattle.check.specs.declared.refusal.Refusal.{Refusal}
-use Rattle.check.specs.declared.refusal.Refusal.TheVariants.{PowerLost, WrongSize}
-use Rattle.check.specs.Size.{suits}
+use Rattle.image_check.specs.declared.refusal.Refusal.{Refusal}
+use Rattle.image_check.specs.declared.refusal.Refusal.TheVariants.{PowerLost, WrongSize}
+use Rattle.image_check.specs.Size.{suits}
 use Rattle.store.specs.Phase.{zeros, Drawn, AllMade, CutIn, Persisted}
 use Rattle.store.specs.Format.{cleared, clearing, stores, formatted, Untouched, Cleared, Formatted, FormatCut, Formats}
 use Rattle.store.proofs.Phases.{done_more, so_far, cut-more, cut_short, ends}

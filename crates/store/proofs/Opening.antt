@@ -3,15 +3,15 @@ use Rattle.std.proofs.Common.{◌≡◌, ℕ, ◌*◌, ◌/◌, ◌<◌, ◌≤�
 use Rattle.memory.specs.Model.{Model}
 use Rattle.memory.proofs.Putting.{up-down}
 use Rattle.layout.specs.Log.{FirstBroken, state}
-use Rattle.check.specs.Answers.{RefusedBy}
-use Rattle.check.specs.Check.{Surveyed, Checks}
-use Rattle.check.specs.Reading.{Looked, LookedDown}
-use Rattle.check.specs.Size.{suits}
-use Rattle.check.specs.declared.image.Survey.{Survey}
-use Rattle.check.specs.declared.refusal.Refusal.{Refusal}
-use Rattle.check.specs.declared.refusal.Refusal.TheVariants.{PowerLost, BadImage, WrongSize}
-use Rattle.check.proofs.Looking.{looked-more, looked-down, refused-map}
-use Rattle.check.proofs.Sizing.{size-enough}
+use Rattle.image_check.specs.Answers.{RefusedBy}
+use Rattle.image_check.specs.Check.{Surveyed, Checks}
+use Rattle.image_check.specs.Reading.{Looked, LookedDown}
+use Rattle.image_check.specs.Size.{suits}
+use Rattle.image_check.specs.declared.image.Survey.{Survey}
+use Rattle.image_check.specs.declared.refusal.Refusal.{Refusal}
+use Rattle.image_check.specs.declared.refusal.Refusal.TheVariants.{PowerLost, BadImage, WrongSize}
+use Rattle.image_check.proofs.Looking.{looked-more, looked-down, refused-map}
+use Rattle.image_check.proofs.Sizing.{size-enough}
 use Rattle.store.specs.Calls.{Opened, Opens}
 use Rattle.store.proofs.Refusing.{sound-size}
 

@@ -9,11 +9,11 @@ use Rattle.memory.specs.declared.fault.Fault.{Fault}
 use Rattle.memory.specs.declared.fault.Fault.TheVariants.{Down, Outside}
 use Rattle.memory.specs.declared.word.Word.{Word}
 use Rattle.memory.proofs.Making.{made_none, made_one, made-append, made-cut, made-flushed}
-use Rattle.check.specs.declared.refusal.Refusal.{Refusal}
-use Rattle.check.specs.declared.refusal.Refusal.TheVariants.{PowerLost}
+use Rattle.image_check.specs.declared.refusal.Refusal.{Refusal}
+use Rattle.image_check.specs.declared.refusal.Refusal.TheVariants.{PowerLost}
 use Rattle.memory.proofs.Putting.{up-down, one-other}
 use Rattle.store.specs.Phase.{Within, zeros, copies, AllMade, CutIn, Storing, Persisted}
-use Rattle.check.specs.Reading.{Looked, LookedDown}
+use Rattle.image_check.specs.Reading.{Looked, LookedDown}
 
 pub store-done : {m n : Model} (i v : ℕ) → Stored m i v (Ok tt) n → AllMade m (word i v ∷ []) n
 store-done i v h = record { was-up = h.0; made = made_one i v (Ok tt) h; up = h.1 }

@@ -13,13 +13,13 @@ use Rattle.images.proofs.Frame.{same-sound, same-holds}
 use Rattle.images.proofs.Holding.{holds-files, holds_after, clean-leads}
 use Rattle.images.proofs.Pieces.{slot-data}
 use Rattle.images.proofs.Recovering.{Torn}
-use Rattle.check.specs.Size.{suits}
-use Rattle.check.specs.declared.refusal.Refusal.{Refusal}
-use Rattle.check.specs.declared.refusal.Refusal.TheVariants.{PowerLost}
-use Rattle.check.proofs.Sizing.{size-blocks}
+use Rattle.image_check.specs.Size.{suits}
+use Rattle.image_check.specs.declared.refusal.Refusal.{Refusal}
+use Rattle.image_check.specs.declared.refusal.Refusal.TheVariants.{PowerLost}
+use Rattle.image_check.proofs.Sizing.{size-blocks}
 use Rattle.store.specs.Calls.{refused_reply, reply, CallCut, Changed, Answered, Took, FileCall, SlotCall}
 use Rattle.store.specs.Phase.{Drawn, AllMade, CutIn, Persisted}
-use Rattle.check.specs.Reading.{Looked}
+use Rattle.image_check.specs.Reading.{Looked}
 use Rattle.store.proofs.Phases.{looked-made, done_more}
 use Rattle.store.proofs.Recovery.{looked-settled, torn-later}
 use Rattle.store.proofs.Calling.{taken-call, slot-refused}

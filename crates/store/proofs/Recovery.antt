@@ -13,9 +13,9 @@ use Rattle.layout.specs.Table.{Table}
 use Rattle.images.proofs.Frame.{same-sound, same-holds}
 use Rattle.images.proofs.Pieces.{file-data, putting_back-same, undoing-same}
 use Rattle.images.proofs.Recovering.{Torn, undone-same, undone-busy, recovered-idle, recovered-clean, recovered-same, leads-same, leads-undoing, leads-undone, leads-freeing}
-use Rattle.check.specs.Reading.{Looked, LookedDown}
-use Rattle.check.specs.declared.refusal.Refusal.{Refusal}
-use Rattle.check.specs.declared.refusal.Refusal.TheVariants.{PowerLost, BadImage, WrongSize}
+use Rattle.image_check.specs.Reading.{Looked, LookedDown}
+use Rattle.image_check.specs.declared.refusal.Refusal.{Refusal}
+use Rattle.image_check.specs.declared.refusal.Refusal.TheVariants.{PowerLost, BadImage, WrongSize}
 use Rattle.store.specs.Phase.{Drawn, AllMade, CutIn}
 use Rattle.store.specs.LogEntry.{Tells}
 use Rattle.store.specs.Recover.{RecoverDone, RecoverCut, Puttable, taken_back, TakenBack}

@@ -4,15 +4,15 @@ use Rattle.std.proofs.lemmas.Bool.{true≢false, cases_Bool}
 use Rattle.memory.specs.Model.{Model}
 use Rattle.memory.specs.Stores.{Words}
 use Rattle.memory.proofs.Putting.{up-down}
-use Rattle.check.specs.Check.{Checks}
-use Rattle.check.specs.Size.{suits}
-use Rattle.check.specs.declared.image.Survey.{Survey}
-use Rattle.check.specs.declared.refusal.Refusal.{Refusal}
-use Rattle.check.specs.declared.refusal.Refusal.TheVariants.{PowerLost, WrongSize}
-use Rattle.check.specs.Directory.{Lists}
-use Rattle.check.specs.Reading.{Looked}
-use Rattle.check.proofs.Looking.{looked-more, refused-map}
-use Rattle.check.proofs.Sizing.{size-blocks}
+use Rattle.image_check.specs.Check.{Checks}
+use Rattle.image_check.specs.Size.{suits}
+use Rattle.image_check.specs.declared.image.Survey.{Survey}
+use Rattle.image_check.specs.declared.refusal.Refusal.{Refusal}
+use Rattle.image_check.specs.declared.refusal.Refusal.TheVariants.{PowerLost, WrongSize}
+use Rattle.image_check.specs.Directory.{Lists}
+use Rattle.image_check.specs.Reading.{Looked}
+use Rattle.image_check.proofs.Looking.{looked-more, refused-map}
+use Rattle.image_check.proofs.Sizing.{size-blocks}
 use Rattle.layout.specs.Image.{root_word}
 use Rattle.layout.specs.Log.{state, log_slot, GoodPiece, Sound}
 use Rattle.store.specs.LogEntry.{Tells}

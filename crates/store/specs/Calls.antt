@@ -6,14 +6,14 @@ use Rattle.layout.specs.Image.{in_block, named, name_of, slot_blocks, table_of}
 use Rattle.layout.specs.Lists.{member}
 use Rattle.layout.specs.Log.{Clean, FirstBusy, Holds, LeadsTo}
 use Rattle.layout.specs.Table.{Table, Ask, Reply, done, refuse, early, on, answer, after}
-use Rattle.check.specs.Answers.{RefusedBy, number}
-use Rattle.check.specs.Check.{HasAll}
-use Rattle.check.specs.Directory.{Lists}
-use Rattle.check.specs.Reading.{Looked, LookedDown}
-use Rattle.check.specs.Size.{suits}
-use Rattle.check.specs.declared.image.Survey.{Survey}
-use Rattle.check.specs.declared.refusal.Refusal.{Refusal}
-use Rattle.check.specs.declared.refusal.Refusal.TheVariants.{PowerLost, BadImage, BadName, NoFile, NameTaken, TooManyFiles, TooLong, WrongSize}
+use Rattle.image_check.specs.Answers.{RefusedBy, number}
+use Rattle.image_check.specs.Check.{HasAll}
+use Rattle.image_check.specs.Directory.{Lists}
+use Rattle.image_check.specs.Reading.{Looked, LookedDown}
+use Rattle.image_check.specs.Size.{suits}
+use Rattle.image_check.specs.declared.image.Survey.{Survey}
+use Rattle.image_check.specs.declared.refusal.Refusal.{Refusal}
+use Rattle.image_check.specs.declared.refusal.Refusal.TheVariants.{PowerLost, BadImage, BadName, NoFile, NameTaken, TooManyFiles, TooLong, WrongSize}
 use Rattle.store.specs.Phase.{Drawn}
 
 -- the reply that tells of a broken rule

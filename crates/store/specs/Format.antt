@@ -3,10 +3,10 @@ use Rattle.std.specs.Prelude.{◌≡◌, ℕ, ◌/◌, ◌%◌, ◌<◌, Bool, t
 use Rattle.memory.specs.Model.{Model, In, Settled}
 use Rattle.memory.specs.Stores.{Words, word}
 use Rattle.memory.specs.declared.word.Word.{Word}
-use Rattle.check.specs.Size.{suits}
+use Rattle.image_check.specs.Size.{suits}
 use Rattle.store.specs.Phase.{zeros, Drawn}
-use Rattle.check.specs.declared.refusal.Refusal.{Refusal}
-use Rattle.check.specs.declared.refusal.Refusal.TheVariants.{PowerLost, WrongSize}
+use Rattle.image_check.specs.declared.refusal.Refusal.{Refusal}
+use Rattle.image_check.specs.declared.refusal.Refusal.TheVariants.{PowerLost, WrongSize}
 
 -- the log state, word 8, and the sixteen slots, words 64 to 95
 abbrev pub cleared : ℕ → Bool

@@ -1,6 +1,6 @@
 -- What a store that is moved through a call answers, and the memory that it holds then.
 use Rattle.std.specs.Prelude.{Bool, Ok, Err, Result}
-use Rattle.check.specs.declared.refusal.Refusal.{Refusal}
+use Rattle.image_check.specs.declared.refusal.Refusal.{Refusal}
 use Rattle.store.specs.declared.stores.Unread.{Unread}
 use Rattle.store.specs.declared.stores.Ready.{Ready}
 

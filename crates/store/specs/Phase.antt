@@ -4,8 +4,8 @@ use Rattle.std.specs.List.{range_with_len}
 use Rattle.memory.specs.Model.{Model, In, Settled}
 use Rattle.memory.specs.Stores.{Words, word, Made}
 use Rattle.memory.specs.declared.word.Word.{Word}
-use Rattle.check.specs.declared.refusal.Refusal.{Refusal}
-use Rattle.check.specs.declared.refusal.Refusal.TheVariants.{PowerLost}
+use Rattle.image_check.specs.declared.refusal.Refusal.{Refusal}
+use Rattle.image_check.specs.declared.refusal.Refusal.TheVariants.{PowerLost}
 
 -- an image that may be found if power fails now
 abbrev pub Drawn : Model → Words → Type 0

@@ -6,8 +6,8 @@ use Rattle.memory.specs.Model.{Model}
 use Rattle.memory.specs.Stores.{Words}
 use Rattle.layout.specs.Image.{in_block, table_of}
 use Rattle.layout.specs.Table.{buffer}
-use Rattle.check.specs.Reading.{Looked, LookedDown}
-use Rattle.check.specs.declared.refusal.Refusal.{Refusal}
+use Rattle.image_check.specs.Reading.{Looked, LookedDown}
+use Rattle.image_check.specs.declared.refusal.Refusal.{Refusal}
 
 -- byte k of the file whose map is block b
 abbrev pub byte_at : Words → ℕ → ℕ → ℕ

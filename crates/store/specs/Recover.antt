@@ -5,11 +5,11 @@ use Rattle.memory.specs.Stores.{Words}
 use Rattle.memory.specs.declared.word.Word.{Word}
 use Rattle.layout.specs.Log.{no_piece, piece_of, undoing, undone, puts_back, recovered, Sound, Clean, FirstBroken, Holds, LeadsTo}
 use Rattle.layout.specs.Table.{Table}
-use Rattle.check.specs.Answers.{RefusedBy}
-use Rattle.check.specs.Reading.{Looked}
-use Rattle.check.specs.Size.{suits}
-use Rattle.check.specs.declared.refusal.Refusal.{Refusal}
-use Rattle.check.specs.declared.refusal.Refusal.TheVariants.{PowerLost, WrongSize}
+use Rattle.image_check.specs.Answers.{RefusedBy}
+use Rattle.image_check.specs.Reading.{Looked}
+use Rattle.image_check.specs.Size.{suits}
+use Rattle.image_check.specs.declared.refusal.Refusal.{Refusal}
+use Rattle.image_check.specs.declared.refusal.Refusal.TheVariants.{PowerLost, WrongSize}
 use Rattle.store.specs.Phase.{Drawn, AllMade, CutIn}
 
 -- Recovery is done: the image was sound and is recovered, the log is free, and the image holds the table that it led to.

@@ -3,8 +3,8 @@ ghost use Rattle.store.specs.Format.{clearing, Formats};
 ghost use Rattle.store.specs.Phase.{Persisted};
 
 use crate::phase::{clear_run, persist_word, settle, store_word};
-use check::refusal::Refusal;
-use check::size::blocks_in;
+use image_check::refusal::Refusal;
+use image_check::size::blocks_in;
 use memory::memory::Memory;
 
 // the word that holds the count of blocks

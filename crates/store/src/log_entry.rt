@@ -1,10 +1,10 @@
 ghost use Rattle.std.specs.Prelude.{◌≡◌, ◌+◌, ◌<◌, ◌≤◌, true, not, ◌&&◌, ◌||◌, length, ◌==◌};
 ghost use Rattle.layout.specs.Log.{no_piece};
-ghost use Rattle.check.specs.Reading.{Reads};
+ghost use Rattle.image_check.specs.Reading.{Reads};
 ghost use Rattle.store.specs.LogEntry.{EntryWords, Tells};
 
 use crate::phase::load_word;
-use check::refusal::Refusal;
+use image_check::refusal::Refusal;
 use layout::log::{Mark, Piece};
 use memory::memory::Memory;
 

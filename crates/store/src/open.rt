@@ -3,8 +3,8 @@ ghost use Rattle.memory.specs.Bytes.{bytes_of};
 ghost use Rattle.store.specs.Calls.{Opens};
 
 use crate::phase::load_word;
-use check::image::{Survey, check_image};
-use check::refusal::Refusal;
+use image_check::image::{Survey, check_image};
+use image_check::refusal::Refusal;
 use memory::memory::Memory;
 
 // What a file call has to know of the image; it takes a sound one whose log is free.

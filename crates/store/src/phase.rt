@@ -1,9 +1,9 @@
 ghost use Rattle.std.specs.Prelude.{◌≡◌, ℕ, ◌+◌, ◌-◌, ◌^◌, ◌<◌, ◌≤◌, true, [], ◌∷◌};
 ghost use Rattle.memory.specs.Stores.{word};
-ghost use Rattle.check.specs.Reading.{Reads};
+ghost use Rattle.image_check.specs.Reading.{Reads};
 ghost use Rattle.store.specs.Phase.{Within, zeros, copies, Storing, Persisted};
 
-use check::refusal::Refusal;
+use image_check::refusal::Refusal;
 use memory::memory::Memory;
 use memory::word::Word;
 

@@ -1,14 +1,14 @@
 ghost use Rattle.std.specs.Prelude.{◌≡◌, ◌+◌, ◌-◌, ◌*◌, ◌/◌, ◌%◌, ◌<◌, ◌≤◌, true, [], ◌∷◌, length, replicate};
 ghost use Rattle.layout.specs.Image.{in_block, map_of, length_of};
 ghost use Rattle.layout.specs.Table.{read};
-ghost use Rattle.check.specs.Check.{MapGood};
-ghost use Rattle.check.specs.Reading.{Reads};
+ghost use Rattle.image_check.specs.Check.{MapGood};
+ghost use Rattle.image_check.specs.Reading.{Reads};
 ghost use Rattle.store.specs.Calls.{FileCall, reply};
 ghost use Rattle.store.specs.Read.{byte_at, bytes_from, Quiet, Given, Filled};
 
 use crate::open::{find_slot, open};
 use crate::phase::load_word;
-use check::refusal::Refusal;
+use image_check::refusal::Refusal;
 use layout::name::{Name, is_well_formed, name_word};
 use layout::place::split;
 use layout::root::Root;

@@ -8,8 +8,8 @@ ghost use Rattle.store.specs.Recover.{Puttable, TakenBack, Recovers};
 
 use crate::log_entry::{LogEntry, load_log_entry};
 use crate::phase::{copy_run, persist_word, settle};
-use check::image::check_image;
-use check::refusal::Refusal;
+use image_check::image::check_image;
+use image_check::refusal::Refusal;
 use layout::log::Piece;
 use memory::memory::Memory;
 

@@ -4,7 +4,7 @@ ghost use Rattle.store.specs.Calls.{SlotCall, reply};
 
 use crate::open::{find_slot, open};
 use crate::phase::persist_word;
-use check::refusal::Refusal;
+use image_check::refusal::Refusal;
 use layout::name::{Name, is_well_formed, name_word};
 use layout::root::Root;
 use memory::memory::Memory;

@@ -12,7 +12,7 @@ use crate::names::{create, remove, rename};
 use crate::read::read;
 use crate::recover::recover;
 use crate::shorten::shorten;
-use check::refusal::Refusal;
+use image_check::refusal::Refusal;
 use layout::name::Name;
 use memory::memory::Memory;
 

@@ -1,4 +1,4 @@
-use check::refusal::Refusal;
+use image_check::refusal::Refusal;
 use media::lagging::LaggingMemory;
 use memory::memory::Memory;
 use std::alloc::Global;

@@ -1,5 +1,5 @@
-use check::image::check_image;
-use check::refusal::Refusal;
+use image_check::image::check_image;
+use image_check::refusal::Refusal;
 use media::byte_image::ByteImage;
 use memory::memory::Memory;
 use std::process::Abort;

@@ -1,4 +1,4 @@
-use check::refusal::Refusal;
+use image_check::refusal::Refusal;
 use layers::cache::Cache;
 use media::byte_image::ByteImage;
 use media::lagging::LaggingMemory;

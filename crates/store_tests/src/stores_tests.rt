@@ -1,4 +1,4 @@
-use check::refusal::Refusal;
+use image_check::refusal::Refusal;
 use media::byte_image::ByteImage;
 use memory::memory::Memory;
 use std::process::Abort;

@@ -1,6 +1,6 @@
 use Rattle.std.proofs.Common.{◌∙◌}
 use Rattle.store.proofs.Phases.{exit-is}
-use Rattle.check.proofs.Sizing.{size-taken, size-enough}
+use Rattle.image_check.proofs.Sizing.{size-taken, size-enough}
 use Rattle.store.proofs.Formatting.{cut-first, cut-clearing, cut-last, all_done, answers-cut, answers-last}
 use Rattle.store.proofs.format.format.Goals as goal
 

@@ -1,5 +1,5 @@
 use Rattle.std.proofs.Common.{◌≡◌, ℕ, ◌+◌, ◌<◌, ◌∙◌, arith, length-set}
-use Rattle.check.proofs.Looking.{looked-more, looked-down, reads_exit, filled}
+use Rattle.image_check.proofs.Looking.{looked-more, looked-down, reads_exit, filled}
 use Rattle.store.specs.LogEntry.{EntryWords}
 use Rattle.store.proofs.log_entry.load_entry_words.Goals as goal
 

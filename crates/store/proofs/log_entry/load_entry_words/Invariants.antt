@@ -1,5 +1,5 @@
 use Rattle.std.proofs.Common.{◌≡◌, ℕ, ◌+◌, ◌<◌, length, get_or}
-use Rattle.check.specs.Reading.{Looked}
+use Rattle.image_check.specs.Reading.{Looked}
 use Rattle.store.proofs.log_entry.load_entry_words.Given as goal
 
 abbrev pub invariant-loop-k : goal.invariant-loop-k

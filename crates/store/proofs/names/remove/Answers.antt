@@ -2,7 +2,7 @@ use Rattle.std.proofs.Common.{◌≡◌, ◌+◌, ◌*◌, ◌/◌, ◌<◌, [],
 use Rattle.layout.specs.Image.{table_of}
 use Rattle.layout.specs.Names.{well_formed}
 use Rattle.layout.specs.Table.{remove}
-use Rattle.check.specs.declared.refusal.Refusal.TheVariants.{NoFile}
+use Rattle.image_check.specs.declared.refusal.Refusal.TheVariants.{NoFile}
 use Rattle.store.proofs.Calling.{known, slot-exit, slot-refused, answered-refused, place_inside}
 use Rattle.store.proofs.Finding.{missing-none, found_name, found-named, remove-change, early-formed, remove-missing}
 use Rattle.store.proofs.Phases.{looked-made}

@@ -1,5 +1,5 @@
 use Rattle.std.proofs.Common.{◌≡◌, ◌∙◌}
-use Rattle.check.proofs.Looking.{looked-more, looked-down, reads_exit}
+use Rattle.image_check.proofs.Looking.{looked-more, looked-down, reads_exit}
 use Rattle.store.specs.Read.{byte_at}
 use Rattle.store.proofs.Bytewise.{byte-loaded}
 use Rattle.store.proofs.read.load_byte.Goals as goal

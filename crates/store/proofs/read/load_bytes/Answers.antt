@@ -1,7 +1,7 @@
 use Rattle.std.proofs.Common.{◌≡◌, ℕ, ◌+◌, ◌<◌, length, ◌∙◌, arith}
 use Rattle.std.proofs.lemmas.List.FromFn.{fill_by_all}
 use Rattle.layout.specs.Image.{map_of, length_of}
-use Rattle.check.proofs.Looking.{looked-more, looked-down, reads_exit, filled}
+use Rattle.image_check.proofs.Looking.{looked-more, looked-down, reads_exit, filled}
 use Rattle.store.specs.Read.{byte_at, bytes_from}
 use Rattle.store.proofs.Bytewise.{map-inside, block_inside, byte-same}
 use Rattle.store.proofs.read.load_bytes.Goals as goal

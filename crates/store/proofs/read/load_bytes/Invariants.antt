@@ -1,6 +1,6 @@
 use Rattle.std.proofs.Common.{◌≡◌, ℕ, ◌+◌, ◌<◌, get_or}
 use Rattle.layout.specs.Image.{map_of}
-use Rattle.check.specs.Reading.{Looked}
+use Rattle.image_check.specs.Reading.{Looked}
 use Rattle.store.specs.Read.{byte_at}
 use Rattle.store.proofs.read.load_bytes.Given as goal
 

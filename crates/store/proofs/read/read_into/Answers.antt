@@ -1,7 +1,7 @@
 use Rattle.std.proofs.Common.{◌≡◌, ◌-◌, min, [], ◌∷◌, length, get_or, sym, refl, ◌∙◌, inl, inr, arith}
 use Rattle.layout.specs.Image.{length_of}
 use Rattle.layout.specs.Table.{read}
-use Rattle.check.proofs.Looking.{looked-more, looked-down}
+use Rattle.image_check.proofs.Looking.{looked-more, looked-down}
 use Rattle.store.proofs.Bytewise.{read-early, file-map, file-length, file-small, file-good, file-filled, front_length, file-done, file-none, file-cut, opens-quiet, given-exit}
 use Rattle.store.proofs.Calling.{known, file-exit}
 use Rattle.store.proofs.read.read_into.Goals as goal

@@ -3,7 +3,7 @@ use Rattle.layout.specs.Image.{length_of, root_word, file_bytes, short_root, tab
 use Rattle.layout.specs.Names.{well_formed}
 use Rattle.layout.specs.Table.{shorten}
 use Rattle.images.proofs.Slots.{bytes-length}
-use Rattle.check.specs.declared.refusal.Refusal.TheVariants.{NoFile, TooLong}
+use Rattle.image_check.specs.declared.refusal.Refusal.TheVariants.{NoFile, TooLong}
 use Rattle.store.specs.Calls.{SlotCall, reply}
 use Rattle.store.specs.Phase.{Persisted}
 use Rattle.memory.specs.Stores.{word}

@@ -13,16 +13,16 @@ returns-in-Cache g t c =
     let none = waiting c.clear.new.self in
     let n = pile_model g.M.Memory.model c.pile_restart.new.pile in
     record {
-      gives = subst (λ w. Restarted w c.pile_restart.result (cache_model none n)) (cache-model c.in-Cache.below c.in-Cache.waiting c.in-Cache.is c.deref-mut.ensures.value g.M.Memory.model) (cache-restart (waiting c.in-Cache.waiting) none (pile_model g.M.Memory.model c.deref-mut.result.now) n c.pile_restart.result c.clear.ensures c.pile_restart.ensures.gives);
-      same = cache-base c.in-Cache.below c.in-Cache.waiting c.in-Cache.is c.deref-mut.ensures.value g.M.Memory.lent (at_base g.M.Memory.lent c.pile_restart.new.pile) c.pile_restart.ensures.same;
-      each = cache-restarts c.in-Cache.below c.in-Cache.waiting c.in-Cache.is c.deref-mut.ensures.value g.M.Memory.model c.pile_restart.new.pile c.clear.new.self c.pile_restart.result c.clear.ensures c.pile_restart.ensures.each;
+      gives = subst (λ w. Restarted w c.pile_restart.result (cache_model none n)) (cache-model c.in-Cache.below c.in-Cache.waiting c.in-Cache.is c.deref_mut.ensures.value g.M.Memory.model) (cache-restart (waiting c.in-Cache.waiting) none (pile_model g.M.Memory.model c.deref_mut.result.now) n c.pile_restart.result c.clear.ensures c.pile_restart.ensures.gives);
+      same = cache-base c.in-Cache.below c.in-Cache.waiting c.in-Cache.is c.deref_mut.ensures.value g.M.Memory.lent (at_base g.M.Memory.lent c.pile_restart.new.pile) c.pile_restart.ensures.same;
+      each = cache-restarts c.in-Cache.below c.in-Cache.waiting c.in-Cache.is c.deref_mut.ensures.value g.M.Memory.model c.pile_restart.new.pile c.clear.new.self c.pile_restart.result c.clear.ensures c.pile_restart.ensures.each;
     }
 
 pub returns-in-Part : goal.returns-in-Part
 returns-in-Part g t c =
     let n = pile_model g.M.Memory.model c.pile_restart-in-Part.new.pile in
     record {
-      gives = subst (λ w. Restarted w c.pile_restart-in-Part.result (part_model c.in-Part.-run.first c.in-Part.-run.count n)) (part-model c.in-Part.below c.in-Part.-run c.in-Part.is c.deref-mut-in-Part.ensures.value g.M.Memory.model) (part-restart c.in-Part.-run.first c.in-Part.-run.count (pile_model g.M.Memory.model c.deref-mut-in-Part.result.now) n c.pile_restart-in-Part.result c.pile_restart-in-Part.ensures.gives);
-      same = part-base c.in-Part.below c.in-Part.-run c.in-Part.is c.deref-mut-in-Part.ensures.value g.M.Memory.lent (at_base g.M.Memory.lent c.pile_restart-in-Part.new.pile) c.pile_restart-in-Part.ensures.same;
-      each = part-restarts c.in-Part.below c.in-Part.-run c.in-Part.is c.deref-mut-in-Part.ensures.value g.M.Memory.model c.pile_restart-in-Part.new.pile c.pile_restart-in-Part.result c.pile_restart-in-Part.ensures.each;
+      gives = subst (λ w. Restarted w c.pile_restart-in-Part.result (part_model c.in-Part._run.first c.in-Part._run.count n)) (part-model c.in-Part.below c.in-Part._run c.in-Part.is c.deref_mut-in-Part.ensures.value g.M.Memory.model) (part-restart c.in-Part._run.first c.in-Part._run.count (pile_model g.M.Memory.model c.deref_mut-in-Part.result.now) n c.pile_restart-in-Part.result c.pile_restart-in-Part.ensures.gives);
+      same = part-base c.in-Part.below c.in-Part._run c.in-Part.is c.deref_mut-in-Part.ensures.value g.M.Memory.lent (at_base g.M.Memory.lent c.pile_restart-in-Part.new.pile) c.pile_restart-in-Part.ensures.same;
+      each = part-restarts c.in-Part.below c.in-Part._run c.in-Part.is c.deref_mut-in-Part.ensures.value g.M.Memory.model c.pile_restart-in-Part.new.pile c.pile_restart-in-Part.result c.pile_restart-in-Part.ensures.each;
     }

@@ -1,0 +1,25 @@
+-- The number of each refusal, and what refusals of the image say.
+use Rattle.std.specs.Prelude.{ℕ}
+use Rattle.image_check.specs.declared.refusal.Refusal.{Refusal}
+use Rattle.image_check.specs.declared.refusal.Refusal.TheVariants.{PowerLost, BadImage, BadName, NoFile, NameTaken, TooManyFiles, TooLong, WrongSize}
+
+abbrev pub number : Refusal → ℕ
+number PowerLost = 1
+number (BadImage rule) = 2
+number BadName = 3
+number NoFile = 4
+number NameTaken = 5
+number TooManyFiles = 6
+number TooLong = 7
+number WrongSize = 9
+
+-- a call that looks at the image and refuses has lost power or found a rule that fails; it refuses for nothing else
+abbrev pub RefusedBy : Refusal → Type 0 → (ℕ → Type 0) → Type 0
+RefusedBy PowerLost lost bad = lost
+RefusedBy (BadImage rule) lost bad = bad rule
+RefusedBy BadName lost bad = ⊥
+RefusedBy NoFile lost bad = ⊥
+RefusedBy NameTaken lost bad = ⊥
+RefusedBy TooManyFiles lost bad = ⊥
+RefusedBy TooLong lost bad = ⊥
+RefusedBy WrongSize lost bad = ⊥

@@ -8,7 +8,7 @@ use Rattle.image_check.proofs.Looking.{looked-none, looked-more, looked-down, re
 use Rattle.image_check.proofs.Mapping.{map-inside}
 use Rattle.image_check.proofs.maps.add_blocks.Given as given
 use Rattle.image_check.proofs.maps.add_blocks.Goals as goal
-use Rattle.image_check.proofs.maps.add_blocks.Goals.{In-ok-block}
+use Rattle.image_check.proofs.maps.add_blocks.Goals.{In_ok-block}
 
 pub returns-then-not-insert : goal.returns-then-not-insert
 returns-then-not-insert g c =
@@ -32,7 +32,7 @@ returns-in_err-block g c =
     }
 
 -- the block that a turn loads
-loaded : (g : given.Over) (c : In-ok-block g)
+loaded : (g : given.Over) (c : In_ok-block g)
     → let f = in_block (g.M.Memory.model c.args.memory.now).seen (map_of c.args.word) in
     (c.in_ok-block.block ≡ f c.loop-k.k) × (f c.loop-k.k < 4096)
 loaded g c =
@@ -58,7 +58,7 @@ returns-then-not-insert-2 g c =
     let h = c.in_ok-block.ensures in
     let i = c.if-not-insert.ensures in
     let j = c.if-not-insert-2.ensures in
-    let block = loaded g (goal.at.returns-then-not-insert-2 g c).In-ok-block in
+    let block = loaded g (goal.at.returns-then-not-insert-2 g c).In_ok-block in
     let first = adds-insert old mid c.from-map.result b true (c.from-map.ensures ∙ c.from_word-root.ensures.map) (omega arith) i.value i.after in
     let last = adds-insert c.loop-k.set set c.in_ok-block.block (f k) false block.0 block.1 j.value j.after in
     let some = adds-rest mid set f (k + 1) n (omega arith) (adds-next mid c.loop-k.set set f k false c.loop-k.invariant.2 last) in
@@ -74,7 +74,7 @@ loop-k-preserved g c =
     let set = c.insert-in-loop-k.new.self in
     let h = c.in_ok-block.ensures in
     let j = c.if-not-insert-2.ensures in
-    let block = loaded g (goal.at.loop-k-preserved g c).In-ok-block in (
+    let block = loaded g (goal.at.loop-k-preserved g c).In_ok-block in (
       looked-more c.loop-k.invariant.0 h.reads.0,
       h.lent ∙ c.loop-k.invariant.1,
       adds-next c.insert.new.self c.loop-k.set set f k true c.loop-k.invariant.2

@@ -6,7 +6,7 @@ use Rattle.image_check.proofs.Looking.{looked-more, looked-down, reads_exit}
 use Rattle.image_check.proofs.Mapping.{map-inside, map-bad, decides-yes, decides-no}
 use Rattle.image_check.proofs.maps.map_is_good.Given as given
 use Rattle.image_check.proofs.maps.map_is_good.Goals as goal
-use Rattle.image_check.proofs.maps.map_is_good.Goals.{In-ok-block}
+use Rattle.image_check.proofs.maps.map_is_good.Goals.{In_ok-block}
 
 pub returns-in_err-block : goal.returns-in_err-block
 returns-in_err-block g c =
@@ -19,7 +19,7 @@ returns-in_err-block g c =
     }
 
 -- the word that a turn loads
-loaded : (g : given.Over) (c : In-ok-block g) → c.in_ok-block.block ≡ in_block (g.M.Memory.model c.args.memory.now).seen c.from-map.result c.loop-k.k
+loaded : (g : given.Over) (c : In_ok-block g) → c.in_ok-block.block ≡ in_block (g.M.Memory.model c.args.memory.now).seen c.from-map.result c.loop-k.k
 loaded g c =
     let m = g.M.Memory.model c.args.memory.now in
     let inside = map-inside c.args.blocks c.from-map.result c.args.root.length c.loop-k.k m.count (omega arith) (omega arith) (omega arith) c.requires.size in
@@ -31,7 +31,7 @@ returns-then-block-lt3 g c =
     let k = c.loop-k.k in
     let h = c.in_ok-block.ensures in
     let less : k < blocks_for c.args.root.length = omega arith in
-    let value : c.in_ok-block.block ≡ in_block m.seen c.args.root.map k = loaded g (goal.at.returns-then-block-lt3 g c).In-ok-block ∙ ap (λ b. in_block m.seen b k) c.from-map.ensures in
+    let value : c.in_ok-block.block ≡ in_block m.seen c.args.root.map k = loaded g (goal.at.returns-then-block-lt3 g c).In_ok-block ∙ ap (λ b. in_block m.seen b k) c.from-map.ensures in
     record {
       reads = (
         looked-more c.loop-k.invariant.0 h.reads.0,
@@ -42,7 +42,7 @@ returns-then-block-lt3 g c =
 
 pub loop-k-preserved : goal.loop-k-preserved
 loop-k-preserved g c =
-    let value = loaded g (goal.at.loop-k-preserved g c).In-ok-block in
+    let value = loaded g (goal.at.loop-k-preserved g c).In_ok-block in
     let h = c.in_ok-block.ensures in (
       looked-more c.loop-k.invariant.0 h.reads.0,
       h.lent ∙ c.loop-k.invariant.1,

@@ -3,7 +3,7 @@ use Rattle.store.specs.Phase.{copies, AllMade}
 use Rattle.store.proofs.Phases.{storing-exit, copies-loaded, copies-more, copies-cut, copies-cut-load}
 use Rattle.store.proofs.phase.copy_run.Given as given
 use Rattle.store.proofs.phase.copy_run.Goals as goal
-use Rattle.store.proofs.phase.copy_run.Goals.{In-ok-value}
+use Rattle.store.proofs.phase.copy_run.Goals.{In_ok-value}
 
 pub returns-in_err-value : goal.returns-in_err-value
 returns-in_err-value g c =
@@ -17,7 +17,7 @@ returns-in_err-value g c =
     }
 
 -- after the load of a turn
-loaded : (g : given.Over) (c : In-ok-value g)
+loaded : (g : given.Over) (c : In_ok-value g)
     → AllMade (g.M.Memory.model c.args.memory.now) (copies (g.M.Memory.model c.args.memory.now).seen c.args.from c.args.to c.loop-j.j) (g.M.Memory.model c.load_word.new.memory)
     × (c.in_ok-value.value ≡ (g.M.Memory.model c.args.memory.now).seen (c.args.from + c.loop-j.j))
 loaded g c =
@@ -32,7 +32,7 @@ returns-in_err-store_word g c =
     let m = g.M.Memory.model c.args.memory.now in
     let k = g.M.Memory.model c.load_word.new.memory in
     let n = g.M.Memory.model c.store_word.new.memory in
-    let first = loaded g (goal.at.returns-in_err-store_word g c).In-ok-value in
+    let first = loaded g (goal.at.returns-in_err-store_word g c).In_ok-value in
     let h = c.in_err-store_word.ensures in
     let r = c.from_residual-in_err-store_word in
     record {
@@ -45,6 +45,6 @@ pub loop-j-preserved : goal.loop-j-preserved
 loop-j-preserved g c =
     let m = g.M.Memory.model c.args.memory.now in
     let k = g.M.Memory.model c.load_word.new.memory in
-    let first = loaded g (goal.at.loop-j-preserved g c).In-ok-value in
+    let first = loaded g (goal.at.loop-j-preserved g c).In_ok-value in
     let h = c.in_ok-store_word.ensures in
     (copies-more {k = k} m.seen c.args.from c.args.to c.loop-j.j c.in_ok-value.value first.0 first.1 h.made, h.lent ∙ c.in_ok-value.ensures.lent ∙ c.loop-j.invariant.1)

@@ -127,7 +127,7 @@ fn is_done_before_cut<M: CutPoint>(
     assert_eq!(rt; recover(memory), Ok(false));
     let done = answer == Ok(());
     let before = !done && has_only(memory, &BEFORE)?;
-    assert!(rt; before || has_only(memory, case.after)?);
+    assert!(rt; before || has_only(memory, case.after)?, "cut after {cut}");
     Ok(done)
 }
 
@@ -151,7 +151,7 @@ fn is_whole_after_any_cut<M: CutPoint>(
 fn is_whole_where_stores_lag(rt: &impl Abort, heap: Global, case: Case) -> Result<(), Fail> {
     for given in 0..=255u8 {
         let mut memory = Cache::new(LaggingMemory::new(heap, 256, given)?);
-        is_whole_after_any_cut(rt, &mut memory, case).note(format_args!("given {given}"))?;
+        is_whole_after_any_cut(rt, &mut memory, case)?;
     }
     Ok(())
 }

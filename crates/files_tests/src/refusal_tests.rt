@@ -235,7 +235,7 @@ fn a_broken_rule_comes_before_the_files(rt: HostRuntime) -> Result<(), Fail> {
         (changed(&[(8, 2), (96, 3)]), 5),
     ];
     for (found, rule) in cases {
-        refuses_all(&rt, found, Refusal::BadImage(rule)).note(format_args!("rule {rule}"))?;
+        refuses_all(&rt, found, Refusal::BadImage(rule))?;
     }
     Ok(())
 }

@@ -126,7 +126,7 @@ fn check_words<M: Memory>(rt: &impl Abort, memory: &mut M, case: Case) -> Result
     }
     expected.store(8, 0)?;
     for at in 0..192 {
-        assert_eq!(rt; memory.load(at), expected.load(at), "word {at}");
+        assert_eq!(rt; memory.load(at), expected.load(at), "{}, word {at}", case.name);
     }
     Ok(())
 }
@@ -138,9 +138,9 @@ fn recovers(rt: &impl Abort, case: Case) -> Result<(), Fail> {
     assert!(rt; memory.restart());
     fill(&mut memory, case)?;
     assert_eq!(rt; recover(&mut memory), Ok(case.answer), "{}", case.name);
-    check_words(rt, &mut memory, case).note(case.name)?;
+    check_words(rt, &mut memory, case)?;
     assert_eq!(rt; recover(&mut memory), Ok(false), "{}", case.name);
-    check_words(rt, &mut memory, case).note(case.name)
+    check_words(rt, &mut memory, case)
 }
 
 #[test]
@@ -315,8 +315,8 @@ fn refuses(rt: &impl Abort, at: u64, value: u64, rule: u8) -> Result<(), Fail> {
     assert!(rt; memory.restart());
     memory.store(at, value)?;
     let before = bytes;
-    assert_eq!(rt; answer(rt, &mut bytes), Err(Refusal::BadImage(rule)));
-    assert_eq!(rt; bytes, before);
+    assert_eq!(rt; answer(rt, &mut bytes), Err(Refusal::BadImage(rule)), "word {at}");
+    assert_eq!(rt; bytes, before, "word {at}, rule {rule}");
     Ok(())
 }
 
@@ -344,7 +344,7 @@ fn a_broken_image_is_left_as_it_is(rt: HostRuntime) -> Result<(), Fail> {
         (12, 0x0100_0003, 6),
     ];
     for (at, value, rule) in cases {
-        refuses(&rt, at, value, rule).note(format_args!("word {at}, rule {rule}"))?;
+        refuses(&rt, at, value, rule)?;
     }
     Ok(())
 }

@@ -1,4 +1,2 @@
-pub mod Lengths
 pub mod Parsing
-pub mod Showing
 pub mod Writing

@@ -1,4 +1,3 @@
-pub mod Answers
 pub mod Commands
 pub mod Lines
 pub mod Session

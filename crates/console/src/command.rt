@@ -1,36 +1,16 @@
-ghost use Rattle.std.specs.Prelude.{◌≡◌, ◌<◌, ◌≤◌, length, IfSome};
+ghost use Rattle.std.specs.Prelude.{◌≡◌, ◌<◌, length, IfSome};
 ghost use Rattle.std.specs.Option.{option_map};
-ghost use Rattle.console.specs.Commands.{parsed, letter, asks_too_much, first_bytes, number, cut_points, creates, removes, shortens, renames, reads};
-
-use layout::name::Name;
-
-// the bytes that a read gives at most
-pub const SHOWN: usize = 32;
-
-// The bytes that a read gives.
-pub type Given = [u8; SHOWN];
+ghost use Rattle.console.specs.Commands.{parsed, letter};
 
 // What a session is told to do.
-#[derive(Clone, Copy, Debug)]
+#[derive(Clone, Copy, PartialEq, Eq, Debug)]
 pub enum Command {
     // turn power off and on again
     Restart,
     // make an empty store of the memory
     Format,
-    // make the store ready for file calls
-    Recover,
     // lose power after so many further loads, stores and barriers
     CutPoint(u16),
-    // make an empty file
-    Create(Name),
-    // take a file out
-    Remove(Name),
-    // keep the first bytes of a file
-    Shorten { name: Name, length: u32 },
-    // give a file another name
-    Rename { name: Name, new: Name },
-    // show bytes of a file, from an offset on
-    Read { name: Name, offset: u32, count: u8 },
 }
 
 impl Command {
@@ -41,119 +21,9 @@ impl Command {
         match self {
             Command::Restart => b'P',
             Command::Format => b'F',
-            Command::Recover => b'R',
             Command::CutPoint(_) => b'K',
-            Command::Create(_) => b'C',
-            Command::Remove(_) => b'D',
-            Command::Shorten { .. } => b'S',
-            Command::Rename { .. } => b'N',
-            Command::Read { .. } => b'G',
         }
     }
-
-    // Whether a command asks for more bytes than a line can show.
-    pub fn asks_too_much(&self) -> bool
-        ensures { result ≡ asks_too_much self.now }
-    {
-        match self {
-            Command::Read { count, .. } => usize::from(*count) > SHOWN,
-            _ => false,
-        }
-    }
-}
-
-// The name in the first eight bytes of the input, and what follows it; none if there are fewer.
-fn take_name(input: &[u8]) -> Option<(Name, &[u8])>
-    ensures value { option_map (λ x. (x.0, x.1.now)) result ≡ first_bytes 8 input.now }
-    ensures shorter { IfSome result (λ x. length x.1.now ≤ length input.now) }
-{
-    if input.len() < 8 {
-        return None;
-    }
-    let (front, rest) = input.split_at(8);
-    let mut name = [0; 8];
-    name.copy_from_slice(front);
-    Some((name, rest))
-}
-
-// The number in the first four bytes of the input, the lowest first, and what follows it; none if there are fewer.
-fn take_number(input: &[u8]) -> Option<(u32, &[u8])>
-    ensures value { option_map (λ x. (x.0, x.1.now)) result ≡ number 4 input.now }
-    ensures shorter { IfSome result (λ x. length x.1.now ≤ length input.now) }
-{
-    let [a, b, c, d, rest @ ..] = input else {
-        return None;
-    };
-    Some((u32::from_le_bytes([*a, *b, *c, *d]), rest))
-}
-
-// A cut point: the number of operations, two bytes.
-fn parse_cut_point(input: &[u8]) -> Option<(Command, &[u8])>
-    ensures value { option_map (λ x. (x.0, x.1.now)) result ≡ cut_points input.now }
-    ensures shorter { IfSome result (λ x. length x.1.now ≤ length input.now) }
-{
-    let [low, high, rest @ ..] = input else {
-        return None;
-    };
-    Some((Command::CutPoint(u16::from_le_bytes([*low, *high])), rest))
-}
-
-// A create: the name.
-fn parse_create(input: &[u8]) -> Option<(Command, &[u8])>
-    ensures value { option_map (λ x. (x.0, x.1.now)) result ≡ creates input.now }
-    ensures shorter { IfSome result (λ x. length x.1.now ≤ length input.now) }
-{
-    let (name, rest) = take_name(input)?;
-    Some((Command::Create(name), rest))
-}
-
-// A remove: the name.
-fn parse_remove(input: &[u8]) -> Option<(Command, &[u8])>
-    ensures value { option_map (λ x. (x.0, x.1.now)) result ≡ removes input.now }
-    ensures shorter { IfSome result (λ x. length x.1.now ≤ length input.now) }
-{
-    let (name, rest) = take_name(input)?;
-    Some((Command::Remove(name), rest))
-}
-
-// A shorten: the name and the length.
-fn parse_shorten(input: &[u8]) -> Option<(Command, &[u8])>
-    ensures value { option_map (λ x. (x.0, x.1.now)) result ≡ shortens input.now }
-    ensures shorter { IfSome result (λ x. length x.1.now ≤ length input.now) }
-{
-    let (name, rest) = take_name(input)?;
-    let (length, rest) = take_number(rest)?;
-    Some((Command::Shorten { name, length }, rest))
-}
-
-// A rename: the name and the new one.
-fn parse_rename(input: &[u8]) -> Option<(Command, &[u8])>
-    ensures value { option_map (λ x. (x.0, x.1.now)) result ≡ renames input.now }
-    ensures shorter { IfSome result (λ x. length x.1.now ≤ length input.now) }
-{
-    let (name, rest) = take_name(input)?;
-    let (new, rest) = take_name(rest)?;
-    Some((Command::Rename { name, new }, rest))
-}
-
-// A read: the name, the offset and the count.
-fn parse_read(input: &[u8]) -> Option<(Command, &[u8])>
-    ensures value { option_map (λ x. (x.0, x.1.now)) result ≡ reads input.now }
-    ensures shorter { IfSome result (λ x. length x.1.now ≤ length input.now) }
-{
-    let (name, rest) = take_name(input)?;
-    let (offset, rest) = take_number(rest)?;
-    let [count, rest @ ..] = rest else {
-        return None;
-    };
-    Some((
-        Command::Read {
-            name,
-            offset,
-            count: *count,
-        },
-        rest,
-    ))
 }
 
 // The first command of the input, and what follows it; none if it is unknown or short.
@@ -164,13 +34,10 @@ pub fn parse(input: &[u8]) -> Option<(Command, &[u8])>
     match input {
         [b'P', rest @ ..] => Some((Command::Restart, rest)),
         [b'F', rest @ ..] => Some((Command::Format, rest)),
-        [b'R', rest @ ..] => Some((Command::Recover, rest)),
-        [b'K', rest @ ..] => parse_cut_point(rest),
-        [b'C', rest @ ..] => parse_create(rest),
-        [b'D', rest @ ..] => parse_remove(rest),
-        [b'S', rest @ ..] => parse_shorten(rest),
-        [b'N', rest @ ..] => parse_rename(rest),
-        [b'G', rest @ ..] => parse_read(rest),
+        [b'K', low, high, rest @ ..] => Some((
+            Command::CutPoint(u16::from_le_bytes([*low, *high])),
+            rest,
+        )),
         _ => None,
     }
 }

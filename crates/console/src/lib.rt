@@ -1,5 +1,4 @@
 // The session: commands from bytes, the state that allows them, and the lines that answer them.
-pub mod answer;
 pub mod command;
 pub mod line;
 pub mod state;

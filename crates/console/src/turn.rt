@@ -2,8 +2,7 @@ ghost use Rattle.std.specs.Prelude.{◌≡◌, ◌<◌, ◌≤◌, length, IfSom
 ghost use Rattle.std.specs.Option.{option_map};
 ghost use Rattle.console.specs.Session.{Turns};
 
-use crate::answer::{Answer, BAD_COMMAND};
-use crate::command::{SHOWN, parse};
+use crate::command::parse;
 use crate::line::{LINE, write_line};
 use crate::state::State;
 use memory::cut_point::CutPoint;
@@ -14,6 +13,9 @@ pub struct Turn<'a> {
     pub written: usize,
     pub rest: &'a [u8],
 }
+
+// the number of an unknown or short command
+const BAD_COMMAND: u8 = 11;
 
 // Carries out the first command of the input and writes its line; none without input, or without room for a line.
 pub fn take_turn<'a, M: CutPoint>(
@@ -31,12 +33,10 @@ pub fn take_turn<'a, M: CutPoint>(
         return None;
     }
     let Some((command, rest)) = parse(input) else {
-        let written = write_line(out, b'?', Answer::plain(BAD_COMMAND), &[])?;
+        let written = write_line(out, b'?', BAD_COMMAND)?;
         return Some(Turn { written, rest: &[] });
     };
-    let mut buffer = [0u8; SHOWN];
-    let outcome = state.step(memory, command, &mut buffer);
-    let shown = &buffer[..outcome.shown];
-    let written = write_line(out, command.letter(), outcome.answer, shown)?;
+    let number = state.step(memory, command);
+    let written = write_line(out, command.letter(), number)?;
     Some(Turn { written, rest })
 }

@@ -75,6 +75,11 @@ Surveyed blocks m (Ok s) n = Looked m n × Sound blocks m.seen × Lists m.seen s
 Surveyed blocks m (Err e) n = RefusedBy e (LookedDown m n) (λ k. Looked m n × FirstBroken k blocks m.seen)
 
 -- What the image check answers. It stores nothing.
-pub record Checks (m : Model) (r : Result Survey Refusal) (n : Model) : Type 0 where
+pub record Checks (m : Model) (r : Result BlockSet Refusal) (n : Model) : Type 0 where
+  pub refused : suits m.count ≡ false → (r ≡ Err WrongSize) × (n ≡ m)
+  pub taken : suits m.count ≡ true → Checked (m.count / 32) m r n
+
+-- The same, with the words of the slots.
+pub record Surveys (m : Model) (r : Result Survey Refusal) (n : Model) : Type 0 where
   pub refused : suits m.count ≡ false → (r ≡ Err WrongSize) × (n ≡ m)
   pub taken : suits m.count ≡ true → Surveyed (m.count / 32) m r n

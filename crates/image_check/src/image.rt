@@ -1,6 +1,6 @@
 ghost use Rattle.std.specs.Prelude.{◌≡◌, ◌*◌, ◌≤◌, true};
 ghost use Rattle.layout.specs.Image.{Rule1, Rule2, Rule3};
-ghost use Rattle.image_check.specs.Check.{Listed, Checked, Checks};
+ghost use Rattle.image_check.specs.Check.{Listed, Checked, Checks, Surveys};
 ghost use Rattle.image_check.specs.Directory.{Lists};
 
 use crate::directory::{names_differ, names_formed, roots_good};
@@ -72,8 +72,8 @@ fn check_blocks<M: Memory>(
 }
 
 // Tries the image rules in their order, and answers what a sound image has or the first rule that fails.
-pub fn check_image<M: Memory>(memory: &mut M) -> Result<Survey, Refusal>
-    ensures checks { Checks (M.Memory.model memory.old) result (M.Memory.model memory.new) }
+pub fn survey_image<M: Memory>(memory: &mut M) -> Result<Survey, Refusal>
+    ensures surveys { Surveys (M.Memory.model memory.old) result (M.Memory.model memory.new) }
     ensures lent { M.Memory.lent memory.new ≡ M.Memory.lent memory.old }
 {
     let Some(blocks) = blocks_in(memory.count()) else {
@@ -82,4 +82,15 @@ pub fn check_image<M: Memory>(memory: &mut M) -> Result<Survey, Refusal>
     let directory = check_directory(memory, blocks)?;
     let used = check_blocks(memory, &directory, blocks)?;
     Ok(Survey { directory, used })
+}
+
+// Tries the image rules in their order, and answers the blocks in use or the first rule that fails.
+pub fn check_image<M: Memory>(memory: &mut M) -> Result<BlockSet, Refusal>
+    ensures checks { Checks (M.Memory.model memory.old) result (M.Memory.model memory.new) }
+    ensures lent { M.Memory.lent memory.new ≡ M.Memory.lent memory.old }
+{
+    match survey_image(memory) {
+        Ok(survey) => Ok(survey.used),
+        Err(refusal) => Err(refusal),
+    }
 }

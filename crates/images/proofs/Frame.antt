@@ -5,9 +5,9 @@ use Rattle.memory.specs.Stores.{Words}
 use Rattle.layout.specs.Lists.{member, distinct, Rearranged}
 use Rattle.layout.specs.Names.{well_formed}
 use Rattle.layout.specs.Touch.{blocks_for, called_for}
-use Rattle.layout.specs.Table.{Table}
+use Rattle.layout.specs.Table.{Table, find}
 use Rattle.layout.specs.Image.{Same, in_block, named, name_word, root_word, map_of, length_of, file_blocks, slot_blocks, used_blocks, file_byte, file_bytes, slot_files, files_of, DataBlock, GoodRoot, Rule2, Rule3, Rule4, Rule5}
-use Rattle.layout.specs.Log.{log_slot, piece_of, no_piece, GoodPiece, Sound, Holds}
+use Rattle.layout.specs.Log.{log_slot, piece_of, no_piece, GoodPiece, Sound, Holds, HoldsFiles}
 use Rattle.images.proofs.Lists.{map_same, joined_same}
 use Rattle.images.proofs.Slots.{blocks-stay, file-stays}
 
@@ -145,6 +145,17 @@ same-sound n w v big same sound =
 
 pub same-holds : (n : ℕ) (w v : Words) (t : Table) → 6 ≤ n → Same n w v → Sound n w → Holds w t → Holds v t
 same-holds n w v t big same sound holds =
+    let h = same-image n w v big same sound in
+    record {
+      size = same 0 (omega arith) ∙ holds.size;
+      same = λ m. ap (find m) (same-files w v h) ∙ holds.same m;
+      many = ap length (same-files w v h) ∙ holds.many;
+      each = λ s lt name. ap length (same-slot_blocks w v h.maps s lt) ∙ holds.each s lt (was-named w v h.maps s lt name) ∙ ap (λ x. called_for (length_of x)) (sym (h.maps.roots s lt));
+      blocks = ap length (same_blocks w v h.maps) ∙ holds.blocks;
+    }
+
+pub same-holds_files : (n : ℕ) (w v : Words) (t : Table) → 6 ≤ n → Same n w v → Sound n w → HoldsFiles w t → HoldsFiles v t
+same-holds_files n w v t big same sound holds =
     let h = same-image n w v big same sound in
     record {
       size = same 0 (omega arith) ∙ holds.size;

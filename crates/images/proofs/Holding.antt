@@ -11,8 +11,8 @@ use Rattle.layout.specs.Lists.{equal, Rearranged, again}
 use Rattle.layout.specs.Touch.{blocks_for, called_for}
 use Rattle.layout.specs.Table.{File, Table, Ask, create, write, read, shorten, rename, remove, find, used, free, with_bytes, with_name, written, answer, change, after, buffer}
 use Rattle.layout.specs.Image.{Same, in_block, named, name_of, root_word, map_of, length_of, slot_blocks, file_byte, file_bytes, slot_files, files_of, table_of, GoodRoot, Rule2, Rule3}
-use Rattle.layout.specs.Log.{recovered, Sound, Clean, Holds, LeadsTo}
-use Rattle.images.proofs.Frame.{same-sound, same-holds}
+use Rattle.layout.specs.Log.{recovered, Sound, Clean, HoldsFiles, LeadsToFiles}
+use Rattle.images.proofs.Frame.{same-sound, same-holds_files}
 use Rattle.images.proofs.Rearranging.{rearranged-refl, rearranged-length, rearranged-end, rearranged-used, equal-same, name_in, differ, find-rearranged, replace-rearranged}
 use Rattle.images.proofs.Recovering.{recovered-idle, recovered-clean}
 
@@ -93,7 +93,7 @@ alike-after t u a d alike = subst (λ r. Alike (after t a) (cond (eqb r.number 0
     go false = alike
 
 -- an image holds every table like one that it holds
-pub holds-alike : (w : Words) (t u : Table) → Alike t u → Holds w t → Holds w u
+pub holds-alike : (w : Words) (t u : Table) → Alike t u → HoldsFiles w t → HoldsFiles w u
 holds-alike w t u alike holds = record {
   size = holds.size ∙ alike.blocks;
   files = again holds.files alike.files;
@@ -101,16 +101,16 @@ holds-alike w t u alike holds = record {
   blocks = holds.blocks ∙ rearranged-used alike.files;
 }
 
-own-alike : (w : Words) (t : Table) → Holds w t → Alike (table_of w) t
+own-alike : (w : Words) (t : Table) → HoldsFiles w t → Alike (table_of w) t
 own-alike w t holds = record { blocks = holds.size; files = holds.files }
 
-pub holds-answer : (w : Words) (t : Table) (a : Ask) → Rule2 w → Holds w t → answer (table_of w) a ≡ answer t a
+pub holds-answer : (w : Words) (t : Table) (a : Ask) → Rule2 w → HoldsFiles w t → answer (table_of w) a ≡ answer t a
 holds-answer w t a two holds = alike-answer (table_of w) t a (files-differ w two) (own-alike w t holds)
 
-pub holds_after : (w v : Words) (t : Table) (a : Ask) → Rule2 w → Holds w t → Holds v (after (table_of w) a) → Holds v (after t a)
+pub holds_after : (w v : Words) (t : Table) (a : Ask) → Rule2 w → HoldsFiles w t → HoldsFiles v (after (table_of w) a) → HoldsFiles v (after t a)
 holds_after w v t a two holds = holds-alike v (after (table_of w) a) (after t a) (alike-after (table_of w) t a (files-differ w two) (own-alike w t holds))
 
-pub holds-buffer : (w : Words) (t : Table) (n : List ℕ) (offset count : ℕ) → Rule2 w → Holds w t → buffer (table_of w) n offset count ≡ buffer t n offset count
+pub holds-buffer : (w : Words) (t : Table) (n : List ℕ) (offset count : ℕ) → Rule2 w → HoldsFiles w t → buffer (table_of w) n offset count ≡ buffer t n offset count
 holds-buffer w t n offset count two holds = simp (find-rearranged n (files-differ w two) holds.files)
 
 -- a named slot has exactly the blocks that its length calls for
@@ -142,7 +142,7 @@ used-from n w three a (suc k) le =
     let later = used-from n w three (a + 1) k (omega arith) in
     cc
 
-pub holds-own : (n : ℕ) (w : Words) → Sound n w → Holds w (table_of w)
+pub holds-own : (n : ℕ) (w : Words) → Sound n w → HoldsFiles w (table_of w)
 holds-own n w sound = record {
   size = refl;
   files = rearranged-refl (files_of w);
@@ -150,15 +150,15 @@ holds-own n w sound = record {
   blocks = used-from n w sound.three 0 16 (omega arith);
 }
 
-pub holds-files : (n : ℕ) (w : Words) (t : Table) → Sound n w → w 0 ≡ t.blocks → Rearranged (files_of w) t.files → Holds w t
+pub holds-files : (n : ℕ) (w : Words) (t : Table) → Sound n w → w 0 ≡ t.blocks → Rearranged (files_of w) t.files → HoldsFiles w t
 holds-files n w t sound size files = holds-alike w (table_of w) t (record { blocks = size; files = files }) (holds-own n w sound)
 
 -- an image whose log is free leads to what it holds
-pub clean-leads : (n : ℕ) (w v : Words) (t : Table) → 6 ≤ n → Same n w v → Clean n w → Holds w t → LeadsTo n v t
+pub clean-leads : (n : ℕ) (w v : Words) (t : Table) → 6 ≤ n → Same n w v → Clean n w → HoldsFiles w t → LeadsToFiles n v t
 clean-leads n w v t big same clean holds = record {
   sound = same-sound n w v big same clean.sound;
-  holds = subst (λ u. Holds u t) (sym (recovered-idle v (same 8 (omega arith) ∙ clean.idle))) (same-holds n w v t big same clean.sound holds);
+  holds = subst (λ u. HoldsFiles u t) (sym (recovered-idle v (same 8 (omega arith) ∙ clean.idle))) (same-holds_files n w v t big same clean.sound holds);
 }
 
-pub holds-clean : (n : ℕ) (w : Words) (t : Table) → 6 ≤ n → LeadsTo n w t → Clean n (recovered w) × Holds (recovered w) t
+pub holds-clean : (n : ℕ) (w : Words) (t : Table) → 6 ≤ n → LeadsToFiles n w t → Clean n (recovered w) × HoldsFiles (recovered w) t
 holds-clean n w t big leads = (recovered-clean n w big leads.sound, leads.holds)

@@ -7,9 +7,9 @@ use Rattle.memory.specs.Stores.{Words, word, one, put, values_at}
 use Rattle.memory.specs.declared.word.Word.{Word}
 use Rattle.memory.proofs.Putting.{in_right, in_either, one-here, one-other, put-append, put_same, put_in, values-either}
 use Rattle.layout.specs.Image.{Same, root_word, map_of}
-use Rattle.layout.specs.Log.{state, log_slot, undone, undoing, recovered, Sound, Clean, LeadsTo}
+use Rattle.layout.specs.Log.{state, log_slot, undone, undoing, recovered, Sound, Clean, LeadsTo, LeadsToFiles}
 use Rattle.layout.specs.Table.{Table}
-use Rattle.images.proofs.Frame.{SameMaps, alike-sound, good-map, same-holds}
+use Rattle.images.proofs.Frame.{SameMaps, alike-sound, good-map, same-holds, same-holds_files}
 use Rattle.images.proofs.Pieces.{map-apart, file-data, InPiece, undoing-place, undoing-same}
 
 -- each word of v is w's, or one that is stored there
@@ -161,29 +161,31 @@ recovered-clean n w big sound =
 pub recovered-again : (w : Words) → recovered (recovered w) ≡ recovered w
 recovered-again w = recovered-idle (recovered w) (recovered-ways w (λ u. state u ≡ 0) (λ undo. refl) (λ kept busy. refl) (λ idle. idle))
 
-pub leads-same : (n : ℕ) (w v : Words) (t : Table) → 6 ≤ n → Sound n v → Same n (recovered w) (recovered v) → LeadsTo n w t → LeadsTo n v t
-leads-same n w v t big sound same leads = record { sound = sound; holds = same-holds n (recovered w) (recovered v) t big same (recovered-clean n w big leads.sound).sound leads.holds }
+-- recovery takes the image, and it then is what it would have been
+pub record Lands (n : ℕ) (w v : Words) : Type 0 where
+  pub sound : Sound n v
+  pub same : Same n (recovered w) (recovered v)
 
 -- wherever recovery is cut off: while the pieces are put back, while the state is freed after that, and while it is freed alone
-pub leads-undoing : (n : ℕ) (w v : Words) (t : Table) → 6 ≤ n → LeadsTo n w t → undone w ≡ true → Torn n w (undoing w) v → LeadsTo n v t
-leads-undoing n w v t big leads undo torn =
-    leads-same n w v t big (undoing-sound n w v big leads.sound (undone-busy w undo) torn) (undoing-again n w v big leads.sound undo torn) leads
+pub undoing-lands : (n : ℕ) (w v : Words) → 6 ≤ n → Sound n w → undone w ≡ true → Torn n w (undoing w) v → Lands n w v
+undoing-lands n w v big sound undo torn = record { sound = undoing-sound n w v big sound (undone-busy w undo) torn; same = undoing-again n w v big sound undo torn }
 
-pub leads-undone : (n : ℕ) (w v : Words) (t : Table) → 6 ≤ n → LeadsTo n w t → undone w ≡ true → Torn n (put (undoing w) w) (word 8 0 ∷ []) v → LeadsTo n v t
-leads-undone n w v t big leads undo torn = ⊎_elim before after (freed-state n u v big torn)
+pub undone-lands : (n : ℕ) (w v : Words) → 6 ≤ n → Sound n w → undone w ≡ true → Torn n (put (undoing w) w) (word 8 0 ∷ []) v → Lands n w v
+undone-lands n w v big sound undo torn = ⊎_elim before after (freed-state n u v big torn)
   where
     u : Words
     u = put (undoing w) w
 
     -- the state is the old one
-    before : v 8 ≡ u 8 → LeadsTo n v t
-    before e = leads-undoing n w v t big leads undo (λ i lt. subst (λ x. In x (values_at (undoing w) i ++ w i ∷ [])) (sym (freed-not n u v big torn e i lt)) (put-torn n w (undoing w) i lt))
+    before : v 8 ≡ u 8 → Lands n w v
+    before e = undoing-lands n w v big sound undo (λ i lt. subst (λ x. In x (values_at (undoing w) i ++ w i ∷ [])) (sym (freed-not n u v big torn e i lt)) (put-torn n w (undoing w) i lt))
 
     -- it is free
-    after : v 8 ≡ 0 → LeadsTo n v t
-    after e =
-        leads-same n w v t big (freeing-sound n u v big (undoing-sound n w u big leads.sound (undone-busy w undo) (put-torn n w (undoing w))) torn)
-        (λ i lt. freed-same n u v big torn e i lt ∙ ap (λ (x : Words). x i) (sym (recovered-undone w undo))) leads
+    after : v 8 ≡ 0 → Lands n w v
+    after e = record {
+      sound = freeing-sound n u v big (undoing-sound n w u big sound (undone-busy w undo) (put-torn n w (undoing w))) torn;
+      same = λ i lt. freed-same n u v big torn e i lt ∙ ap (λ (x : Words). x i) (sym (recovered-undone w undo));
+    }
 
 -- freeing again gives the same
 pub freeing-again : (n : ℕ) (w v : Words) → 6 ≤ n → Sound n w → undone w ≡ false → Torn n w (word 8 0 ∷ []) v → Same n (recovered w) (recovered v)
@@ -207,8 +209,34 @@ freeing-again n w v big sound kept torn = ⊎_elim idle busy (cases_eq (state w)
     busy : (state w ≡ 0 → ⊥) → Same n (recovered w) (recovered v)
     busy b = ⊎_elim (before b) (after b) (freed-state n w v big torn)
 
+pub freeing-lands : (n : ℕ) (w v : Words) → 6 ≤ n → Sound n w → undone w ≡ false → Torn n w (word 8 0 ∷ []) v → Lands n w v
+freeing-lands n w v big sound kept torn = record { sound = freeing-sound n w v big sound torn; same = freeing-again n w v big sound kept torn }
+
+-- so it leads to the table that it led to
+pub leads-same : (n : ℕ) (w v : Words) (t : Table) → 6 ≤ n → Sound n v → Same n (recovered w) (recovered v) → LeadsTo n w t → LeadsTo n v t
+leads-same n w v t big sound same leads = record { sound = sound; holds = same-holds n (recovered w) (recovered v) t big same (recovered-clean n w big leads.sound).sound leads.holds }
+
+pub leads-undoing : (n : ℕ) (w v : Words) (t : Table) → 6 ≤ n → LeadsTo n w t → undone w ≡ true → Torn n w (undoing w) v → LeadsTo n v t
+leads-undoing n w v t big leads undo torn = let l = undoing-lands n w v big leads.sound undo torn in leads-same n w v t big l.sound l.same leads
+
+pub leads-undone : (n : ℕ) (w v : Words) (t : Table) → 6 ≤ n → LeadsTo n w t → undone w ≡ true → Torn n (put (undoing w) w) (word 8 0 ∷ []) v → LeadsTo n v t
+leads-undone n w v t big leads undo torn = let l = undone-lands n w v big leads.sound undo torn in leads-same n w v t big l.sound l.same leads
+
 pub leads-freeing : (n : ℕ) (w v : Words) (t : Table) → 6 ≤ n → LeadsTo n w t → undone w ≡ false → Torn n w (word 8 0 ∷ []) v → LeadsTo n v t
-leads-freeing n w v t big leads kept torn = leads-same n w v t big (freeing-sound n w v big leads.sound torn) (freeing-again n w v big leads.sound kept torn) leads
+leads-freeing n w v t big leads kept torn = let l = freeing-lands n w v big leads.sound kept torn in leads-same n w v t big l.sound l.same leads
+
+-- and to the files that it led to, in whatever order
+pub leads_to_files-same : (n : ℕ) (w v : Words) (t : Table) → 6 ≤ n → Sound n v → Same n (recovered w) (recovered v) → LeadsToFiles n w t → LeadsToFiles n v t
+leads_to_files-same n w v t big sound same leads = record { sound = sound; holds = same-holds_files n (recovered w) (recovered v) t big same (recovered-clean n w big leads.sound).sound leads.holds }
+
+pub leads_to_files-undoing : (n : ℕ) (w v : Words) (t : Table) → 6 ≤ n → LeadsToFiles n w t → undone w ≡ true → Torn n w (undoing w) v → LeadsToFiles n v t
+leads_to_files-undoing n w v t big leads undo torn = let l = undoing-lands n w v big leads.sound undo torn in leads_to_files-same n w v t big l.sound l.same leads
+
+pub leads_to_files-undone : (n : ℕ) (w v : Words) (t : Table) → 6 ≤ n → LeadsToFiles n w t → undone w ≡ true → Torn n (put (undoing w) w) (word 8 0 ∷ []) v → LeadsToFiles n v t
+leads_to_files-undone n w v t big leads undo torn = let l = undone-lands n w v big leads.sound undo torn in leads_to_files-same n w v t big l.sound l.same leads
+
+pub leads_to_files-freeing : (n : ℕ) (w v : Words) (t : Table) → 6 ≤ n → LeadsToFiles n w t → undone w ≡ false → Torn n w (word 8 0 ∷ []) v → LeadsToFiles n v t
+leads_to_files-freeing n w v t big leads kept torn = let l = freeing-lands n w v big leads.sound kept torn in leads_to_files-same n w v t big l.sound l.same leads
 
 -- recovery of the same words comes to the same
 pub recovered-same : (n : ℕ) (w v : Words) → 6 ≤ n → Sound n w → Same n w v → Same n (recovered w) (recovered v)

@@ -1,4 +1,6 @@
 // Layers over any memory: a cache, and a part.
+#![tactic(auto)]
+
 pub mod cache;
 pub mod outside;
 pub mod part;

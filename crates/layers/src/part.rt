@@ -1,7 +1,7 @@
 ghost use Rattle.std.specs.Prelude.{◌≡◌, ◌-◌, min};
 ghost use Rattle.memory.specs.Model.{Loaded, Stored, Flushed, Restarted};
 ghost use Rattle.layers.specs.Below.{PartLoads, PartStores};
-ghost use Rattle.layers.specs.Layers.{part-seen-may};
+ghost use Rattle.layers.specs.Layers.{part_model, part-seen-may};
 ghost use Rattle.layers.specs.PartOf.{part_of};
 
 use memory::cut_point::CutPoint;
@@ -41,7 +41,7 @@ impl<M: Memory> Part<M> {
 }
 
 impl<M: Memory> Memory for Part<M> {
-    ghost model = { part_of M.Memory.model };
+    ghost model = { λ s. part_model s.run.first s.run.count (M.Memory.model s.below) };
 
     ghost seen_may = { λ s. part-seen-may s.run.first s.run.count (M.Memory.model s.below) (M.Memory.seen_may s.below) };
 

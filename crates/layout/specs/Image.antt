@@ -1,11 +1,11 @@
 -- The image: how the words of a memory hold the files. A block is 32 words; block b is the words from 32 * b.
-use Rattle.std.specs.Prelude.{◌≡◌, ℕ, ◌+◌, ◌-◌, ◌*◌, ◌/◌, ◌%◌, ◌^◌, ◌<◌, ◌≤◌, Bool, true, false, cond, not, ◌&&◌, ◌⊎◌, List, [], ◌∷◌, ◌++◌, map, length, ◌==◌, ◌≢◌}
+use Rattle.std.specs.Prelude.{◌≡◌, ℕ, ◌+◌, ◌*◌, ◌/◌, ◌%◌, ◌^◌, ◌<◌, ◌≤◌, Bool, true, cond, not, ◌&&◌, ◌⊎◌, List, [], ◌∷◌, map, ◌==◌, ◌≢◌}
 use Rattle.std.specs.List.{range_with_len, flat_map}
 use Rattle.memory.specs.Bytes.{byte_of, bytes_of}
 use Rattle.memory.specs.Stores.{Words}
-use Rattle.layout.specs.Lists.{member, distinct}
+use Rattle.layout.specs.Lists.{distinct}
 use Rattle.layout.specs.Names.{well_formed}
-use Rattle.layout.specs.Touch.{blocks_for, called_for}
+use Rattle.layout.specs.Touch.{blocks_for}
 use Rattle.layout.specs.Table.{File, Table}
 
 -- the same words, in a memory of n blocks

@@ -1,5 +1,5 @@
 -- Lists: which numbers are in them, whether they differ, and the same items in another order.
-use Rattle.std.specs.Prelude.{◌≡◌, ℕ, Bool, true, false, cond, ◌&&◌, ◌||◌, List, [], ◌∷◌, ◌++◌, ◌==◌}
+use Rattle.std.specs.Prelude.{ℕ, Bool, true, false, cond, ◌&&◌, ◌||◌, List, [], ◌∷◌, ◌==◌}
 
 -- x is one of the numbers
 abbrev pub member : ℕ → List ℕ → Bool

@@ -1,12 +1,12 @@
 -- The log entry, in words 8 to 12, and what recovery makes of an image.
-use Rattle.std.specs.Prelude.{◌≡◌, ℕ, ◌+◌, ◌*◌, ◌/◌, ◌%◌, ◌^◌, ◌<◌, ◌≤◌, Bool, true, false, cond, not, ◌&&◌, ◌||◌, ◌⊎◌, List, [], ◌∷◌, ◌++◌, map, length, ◌==◌, ◌≢◌}
+use Rattle.std.specs.Prelude.{◌≡◌, ℕ, ◌+◌, ◌*◌, ◌/◌, ◌%◌, ◌^◌, ◌<◌, ◌≤◌, Bool, true, cond, not, ◌&&◌, ◌||◌, ◌⊎◌, List, [], ◌∷◌, ◌++◌, map, length, ◌==◌, ◌≢◌}
 use Rattle.std.specs.List.{range_with_len}
 use Rattle.memory.specs.Stores.{Words, word, put}
 use Rattle.memory.specs.declared.word.Word.{Word}
 use Rattle.layout.specs.Lists.{member, Rearranged}
 use Rattle.layout.specs.Touch.{called_for}
-use Rattle.layout.specs.Table.{Table, used}
-use Rattle.layout.specs.Image.{named, name_of, root_word, file_blocks, used_blocks, files_of, slot_blocks, length_of, Rule1, Rule2, Rule3, Rule4, Rule5}
+use Rattle.layout.specs.Table.{Table, find, used}
+use Rattle.layout.specs.Image.{named, root_word, file_blocks, used_blocks, files_of, slot_blocks, length_of, Rule1, Rule2, Rule3, Rule4, Rule5}
 
 -- word 8: 0 free, 1 commit, 2 checkpoint
 abbrev pub state : Words → ℕ
@@ -71,8 +71,16 @@ pub record FirstBroken (k n : ℕ) (w : Words) : Type 0 where
   pub before : (j : ℕ) → 1 ≤ j → j < k → Rule j n w
   pub here : Rule k n w → ⊥
 
--- what an image holds: the table's count of blocks, its files in whatever order, and each file exactly its blocks
+-- what an image holds: the table's count of blocks, its files under their names, and each file exactly its blocks
 pub record Holds (w : Words) (t : Table) : Type 0 where
+  pub size : w 0 ≡ t.blocks
+  pub same : (n : List ℕ) → find n (files_of w) ≡ find n t.files
+  pub many : length (files_of w) ≡ length t.files
+  pub each : (s : ℕ) → s < 16 → named w s ≡ true → length (slot_blocks w s) ≡ called_for (length_of (root_word w s))
+  pub blocks : length (used_blocks w) ≡ used t.files
+
+-- the same of a table's files in whatever order
+pub record HoldsFiles (w : Words) (t : Table) : Type 0 where
   pub size : w 0 ≡ t.blocks
   pub files : Rearranged (files_of w) t.files
   pub each : (s : ℕ) → s < 16 → named w s ≡ true → length (slot_blocks w s) ≡ called_for (length_of (root_word w s))
@@ -105,6 +113,11 @@ recovered w = put (recovering w) w
 pub record LeadsTo (n : ℕ) (w : Words) (t : Table) : Type 0 where
   pub sound : Sound n w
   pub holds : Holds (recovered w) t
+
+-- an image leads to a table's files, in whatever order
+pub record LeadsToFiles (n : ℕ) (w : Words) (t : Table) : Type 0 where
+  pub sound : Sound n w
+  pub holds : HoldsFiles (recovered w) t
 
 -- k is the first rule that fails where a file call asks for a log that is free, too
 abbrev pub FirstBusy : ℕ → ℕ → Words → Type 0

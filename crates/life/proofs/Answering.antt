@@ -4,7 +4,7 @@ use Rattle.std.proofs.lemmas.Bool.{true≢false, cases_Bool, cases_eq, ne_eqb, e
 use Rattle.memory.specs.Model.{Model}
 use Rattle.memory.specs.Stores.{Words}
 use Rattle.layout.specs.Image.{Rule1, Rule2, Rule3, Rule4, Rule5, table_of}
-use Rattle.layout.specs.Log.{Rule6, Rule, Sound, Clean, FirstBroken, FirstBusy, Holds}
+use Rattle.layout.specs.Log.{Rule6, Rule, Sound, Clean, FirstBroken, FirstBusy, HoldsFiles}
 use Rattle.layout.specs.Names.{well_formed}
 use Rattle.layout.specs.Table.{Table, Ask, create, write, read, shorten, rename, remove, Reply, done, refuse, find, longest, early, answer, change, after, buffer}
 use Rattle.images.proofs.Holding.{holds-buffer}
@@ -98,7 +98,7 @@ refused-buffer t n offset count some = ⊎_elim formed unformed (cases_Bool (wel
         given : (bs : List ℕ) → find n t.files ≡ Some bs → (answer t (read n offset count)).number ≡ 0
         given bs is = simp (e, is)
 
-pub shows : (m : Model) (t : Table) (a : Ask) (r : Reply) (bytes : List ℕ) → Rule2 m.seen → Holds m.seen t → r ≡ answer t a → Buffered m a r bytes → Shows t a bytes
+pub shows : (m : Model) (t : Table) (a : Ask) (r : Reply) (bytes : List ℕ) → Rule2 m.seen → HoldsFiles m.seen t → r ≡ answer t a → Buffered m a r bytes → Shows t a bytes
 shows m t (create n) r bytes two holds e h = tt
 shows m t (write n offset bs) r bytes two holds e h = tt
 shows m t (read n offset count) r bytes two holds e h =

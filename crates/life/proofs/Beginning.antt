@@ -8,7 +8,7 @@ use Rattle.memory.specs.Model.{Model, Settled, SeenMay}
 use Rattle.memory.specs.Stores.{Words}
 use Rattle.layout.specs.Image.{named, name_word, slot_blocks, slot_files, used_blocks, files_of}
 use Rattle.layout.specs.Lists.{distinct}
-use Rattle.layout.specs.Log.{Clean, Holds}
+use Rattle.layout.specs.Log.{Clean, HoldsFiles}
 use Rattle.images.proofs.Directory.{no_blocks}
 use Rattle.images.proofs.Holding.{holds-files, clean-leads}
 use Rattle.images.proofs.Lists.{joined_same}
@@ -70,7 +70,7 @@ begins-alive m f t h =
     let bare : (s : ℕ) → s < 16 → name_word f.seen s ≡ 0 = λ s lt. h.seen (64 + 2 * s) (omega (arith, b.0, b.2)) ∙ formatted-slot (m.count / 32) m.seen s lt in
     let clean = bare-clean (f.count / 32) f.seen zero idle bare in
     let none = no-files (f.count / 32) f.seen zero idle bare in
-    let holds : Holds f.seen (empty (f.count / 32)) = holds-files (f.count / 32) f.seen (empty (f.count / 32)) clean.sound zero (subst (λ fs. Rearranged fs []) (sym none) (rearranged-refl [])) in
+    let holds : HoldsFiles f.seen (empty (f.count / 32)) = holds-files (f.count / 32) f.seen (empty (f.count / 32)) clean.sound zero (subst (λ fs. Rearranged fs []) (sym none) (rearranged-refl [])) in
     record {
       suitable = suitable;
       count = refl;

@@ -5,8 +5,8 @@ use Rattle.memory.specs.Model.{Model, In, Settled, SeenMay, Restarted, WentDown}
 use Rattle.memory.specs.Stores.{Words}
 use Rattle.memory.proofs.Putting.{up-down}
 use Rattle.layout.specs.Image.{Same}
-use Rattle.layout.specs.Log.{Clean, FirstBroken, Holds, LeadsTo}
-use Rattle.images.proofs.Frame.{same-sound, same-holds}
+use Rattle.layout.specs.Log.{Clean, FirstBroken, HoldsFiles, LeadsToFiles}
+use Rattle.images.proofs.Frame.{same-sound, same-holds_files}
 use Rattle.images.proofs.Holding.{holds-answer, holds_after, clean-leads}
 use Rattle.layout.specs.Table.{Table, Ask, Reply, done, refuse, early, answer, after}
 use Rattle.image_check.specs.Reading.{Looked}
@@ -29,9 +29,9 @@ pub record Alive (f : Model) (es : List Event) (m : Model) : Type 0 where
   pub suitable : suits f.count ≡ true
   pub count : m.count ≡ f.count
   pub last : latest f es ≡ m
-  pub found : (v : Words) → Drawn m v → (u : Table) × Explained f (empty (f.count / 32)) es u × LeadsTo (f.count / 32) v u
+  pub found : (v : Words) → Drawn m v → (u : Table) × Explained f (empty (f.count / 32)) es u × LeadsToFiles (f.count / 32) v u
   pub settled : m.up ≡ true → Settled m
-  pub held : m.up ≡ true → (u : Table) × Explained f (empty (f.count / 32)) es u × LeadsTo (f.count / 32) m.seen u × (ready es ≡ true → Clean (f.count / 32) m.seen × Holds m.seen u)
+  pub held : m.up ≡ true → (u : Table) × Explained f (empty (f.count / 32)) es u × LeadsToFiles (f.count / 32) m.seen u × (ready es ≡ true → Clean (f.count / 32) m.seen × HoldsFiles m.seen u)
 
 abbrev pub event : Asked → Reply → List ℕ → Model → Event
 event a r bytes n = record { asked = a; reply = r; buffer = bytes; memory = n }
@@ -42,7 +42,7 @@ settled_same n m v settled drawn size i lt = ⊎_elim (λ e. e) (λ k. absurd k)
 
 -- an image found leads to a table that the event takes an earlier one to
 abbrev Reached : Model → List Event → Model → Event → Words → Type 0
-Reached f es m e v = (u w : Table) × Explained f (empty (f.count / 32)) es u × Takes m u (ready es) e.asked e w × LeadsTo (f.count / 32) v w
+Reached f es m e v = (u w : Table) × Explained f (empty (f.count / 32)) es u × Takes m u (ready es) e.asked e w × LeadsToFiles (f.count / 32) v w
 
 module _ (f : Model) (es : List Event) (m : Model) (alive : Alive f es m) where
   blocks : ℕ
@@ -104,7 +104,7 @@ module _ (f : Model) (es : List Event) (m : Model) (alive : Alive f es m) where
     held = λ up.
         let now = alive.held (ap (λ (x : Model). x.up) (sym is) ∙ up) in
         let seen : m.seen ≡ e.memory.seen = ap (λ (x : Model). x.seen) (sym is) in
-        (now.0, next e now.0 now.0 now.1 (takes now.0), subst (λ w. LeadsTo (f.count / 32) w now.0) seen now.2, λ yes. let h = now.3 (sym same ∙ yes) in (subst (Clean (f.count / 32)) seen h.0, subst (λ w. Holds w now.0) seen h.1));
+        (now.0, next e now.0 now.0 now.1 (takes now.0), subst (λ w. LeadsToFiles (f.count / 32) w now.0) seen now.2, λ yes. let h = now.3 (sym same ∙ yes) in (subst (Clean (f.count / 32)) seen h.0, subst (λ w. HoldsFiles w now.0) seen h.1));
   }
 
   -- power was lost in a call, and every image found leads to a table that the call takes an earlier one to
@@ -121,7 +121,7 @@ module _ (f : Model) (es : List Event) (m : Model) (alive : Alive f es m) where
   }
 
   -- a call was done, or refused with power: the image seen is clean and holds the table w
-  done-with : (e : Event) (u w : Table) → e.memory.count ≡ m.count → Settled e.memory → Clean (f.count / 32) e.memory.seen → Holds e.memory.seen w → Explained f (empty (f.count / 32)) es u → Takes m u (ready es) e.asked e w → Alive f (e ∷ es) e.memory
+  done-with : (e : Event) (u w : Table) → e.memory.count ≡ m.count → Settled e.memory → Clean (f.count / 32) e.memory.seen → HoldsFiles e.memory.seen w → Explained f (empty (f.count / 32)) es u → Takes m u (ready es) e.asked e w → Alive f (e ∷ es) e.memory
   done-with e u w count settled clean holds before takes =
       let told = next e u w before takes in
       let room = subst (λ x. 32 * (f.count / 32) ≤ x) (sym count) size in
@@ -210,7 +210,7 @@ module _ (f : Model) (es : List Event) (m : Model) (alive : Alive f es m) where
             let now = alive.found v (subst (λ (x : Model). Drawn x v) (cut.still down) d) in
             (now.0, now.0, now.1, lost now.0 now.0 (inl refl), now.2)
 
-    file-answered : (u : Table) → Explained f (empty (f.count / 32)) es u → Holds m.seen u → Answered (f.count / 32) m a r n → Alive f (event (file a) r bytes n ∷ es) n
+    file-answered : (u : Table) → Explained f (empty (f.count / 32)) es u → HoldsFiles m.seen u → Answered (f.count / 32) m a r n → Alive f (event (file a) r bytes n ∷ es) n
     file-answered u before holds ans = ⊎_elim ended turned-away (cases_eq r.number 0)
       where
         answers : r ≡ answer u a
@@ -231,7 +231,7 @@ module _ (f : Model) (es : List Event) (m : Model) (alive : Alive f es m) where
             let looked = ans.refused some in
             let same : Same (f.count / 32) m.seen n.seen = λ i lt. looked.seen i (omega (arith, size)) in
             let clean : Clean (f.count / 32) n.seen = record { sound = same-sound (f.count / 32) m.seen n.seen big same ans.clean.sound; idle = same 8 (omega (arith, big)) ∙ ans.clean.idle } in
-            done-with (event (file a) r bytes n) u u looked.fewer.same_count (looked-settled looked (alive.settled ans.was-up)) clean (same-holds (f.count / 32) m.seen n.seen u big same ans.clean.sound holds) before
+            done-with (event (file a) r bytes n) u u looked.fewer.same_count (looked-settled looked (alive.settled ans.was-up)) clean (same-holds_files (f.count / 32) m.seen n.seen u big same ans.clean.sound holds) before
             (file-takes u u (inr (answers, show, sym (after-refused u a (λ z. some (ap (λ (y : Reply). y.number) answers ∙ z))), λ d. absurd (some (eqb-true r.number 0 d)))))
 
     file-took : Took (f.count / 32) m a r n → Alive f (event (file a) r bytes n ∷ es) n

@@ -2,7 +2,7 @@
 use Rattle.std.specs.Prelude.{◌≡◌, ℕ, ◌/◌, Bool, true, false, cond, ◌||◌, ◌⊎◌, List, [], ◌∷◌, map, reverse, replicate, ◌==◌}
 use Rattle.memory.specs.Model.{Model}
 use Rattle.layout.specs.Image.{Rule5}
-use Rattle.layout.specs.Log.{Holds}
+use Rattle.layout.specs.Log.{HoldsFiles}
 use Rattle.layout.specs.Table.{Table, Ask, create, write, read, shorten, rename, remove, Reply, refuse, answer, after, buffer}
 use Rattle.life.specs.Asked.{Asked, restart, recover, file}
 
@@ -33,7 +33,7 @@ latest m (e ∷ es) = e.memory
 
 -- the image seen holds the table's files, each with exactly its blocks, and no block is used twice
 abbrev pub Stands : Event → Table → Type 0
-Stands e t = Holds e.memory.seen t × Rule5 e.memory.seen
+Stands e t = HoldsFiles e.memory.seen t × Rule5 e.memory.seen
 
 -- power was lost
 abbrev pub Cut : Event → Type 0

@@ -1,9 +1,8 @@
 -- Stores one after another, and the barrier at their end. Assumes nothing.
-use Rattle.std.proofs.Common.{◌≡◌, ℕ, ◌<◌, ◌≤◌, Bool, true, false, cond, eqb, ◌⊎◌, List, [], ◌∷◌, ◌++◌, Ok, Err, Result, sym, refl, ap, ◌∙◌, subst, inl, inr, ⊎_elim, arith}
+use Rattle.std.proofs.Common.{◌≡◌, ℕ, ◌<◌, Bool, true, false, cond, eqb, List, [], ◌∷◌, ◌++◌, Ok, Err, Result, sym, refl, ap, ◌∙◌, subst, ⊎_elim, arith}
 use native.Mathlib.Decide.{ℕ_discrete}
-use Rattle.std.proofs.lemmas.List.{append_assoc}
 use Rattle.std.proofs.lemmas.Bool.Decides.{nat_tests}
-use Rattle.memory.specs.Model.{Model, In, Among, Fewer, StoreKept, Stored, Flushed}
+use Rattle.memory.specs.Model.{Model, In, StoreKept, Stored, Flushed}
 use Rattle.memory.specs.Stores.{Words, word, one, put, values_at, Made}
 use Rattle.memory.specs.declared.fault.Fault.{Fault}
 use Rattle.memory.specs.declared.fault.Fault.TheVariants.{Down, Outside}

@@ -1,9 +1,8 @@
 -- Words after stores, and lists of candidates. Assumes nothing.
-use Rattle.std.proofs.Common.{◌≡◌, ℕ, zero, suc, ◌+◌, ◌<◌, ◌≤◌, Bool, true, false, cond, eqb, ◌⊎◌, List, [], ◌∷◌, ◌++◌, sym, refl, ap, ◌∙◌, subst, inl, inr, ⊎_elim, arith}
-use native.Mathlib.Decide.{ℕ_discrete}
+use Rattle.std.proofs.Common.{◌≡◌, ℕ, Bool, true, false, cond, eqb, ◌⊎◌, List, [], ◌∷◌, ◌++◌, sym, refl, ap, ◌∙◌, subst, inl, inr, ⊎_elim, arith}
 use Rattle.std.proofs.lemmas.Bool.Decides.{nat_tests}
-use Rattle.memory.specs.Model.{In, Among}
-use Rattle.memory.specs.Stores.{Words, word, one, put, values_at}
+use Rattle.memory.specs.Model.{In}
+use Rattle.memory.specs.Stores.{Words, one, put, values_at}
 use Rattle.memory.specs.declared.word.Word.{Word}
 
 -- two tests that cannot both hold

@@ -1,5 +1,5 @@
 -- Stores one after another, and the words that come of them.
-use Rattle.std.specs.Prelude.{◌≡◌, ℕ, ◌<◌, Bool, true, false, cond, ◌⊎◌, List, [], ◌∷◌, ◌++◌, ◌==◌}
+use Rattle.std.specs.Prelude.{◌≡◌, ℕ, ◌<◌, true, cond, List, [], ◌∷◌, ◌++◌, ◌==◌}
 use Rattle.memory.specs.Model.{Model, In}
 use Rattle.memory.specs.declared.word.Word.{Word}
 

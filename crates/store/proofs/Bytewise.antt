@@ -13,12 +13,12 @@ use Rattle.memory.specs.Model.{Model}
 use Rattle.memory.specs.Stores.{Words}
 use Rattle.layout.specs.Image.{Same, in_block, named, name_of, root_word, map_of, length_of, file_blocks, slot_blocks, file_byte, file_bytes, files_of, table_of, DataBlock, GoodRoot}
 use Rattle.layout.specs.Lists.{member}
-use Rattle.layout.specs.Log.{Sound, Clean, FirstBusy, Holds}
+use Rattle.layout.specs.Log.{Sound, Clean, FirstBusy, HoldsFiles}
 use Rattle.layout.specs.Names.{well_formed}
 use Rattle.layout.specs.Table.{Table, Ask, read, done, refuse, find, answer, after, buffer, early}
 use Rattle.layout.specs.Touch.{blocks_for}
 use Rattle.images.proofs.Directory.{formed-named}
-use Rattle.images.proofs.Frame.{same-sound, same-holds}
+use Rattle.images.proofs.Frame.{same-sound, same-holds_files}
 use Rattle.images.proofs.Holding.{holds-own}
 use Rattle.images.proofs.Lists.{map_same}
 use Rattle.images.proofs.Pieces.{slot-data}
@@ -129,7 +129,7 @@ looked-changed {m} {n} blocks name offset count big size clean looked =
       up = looked.up;
       count = looked.fewer.same_count;
       clean = record { sound = same-sound blocks m.seen n.seen big same clean.sound; idle = same 8 (omega arith) ∙ clean.idle };
-      holds = subst (Holds n.seen) (sym (read-after (table_of m.seen) name offset count)) (same-holds blocks m.seen n.seen (table_of m.seen) big same clean.sound (holds-own blocks m.seen clean.sound));
+      holds = subst (HoldsFiles n.seen) (sym (read-after (table_of m.seen) name offset count)) (same-holds_files blocks m.seen n.seen (table_of m.seen) big same clean.sound (holds-own blocks m.seen clean.sound));
       settled = looked-settled looked;
       others = λ s b j lt name _ has less. let d = slot-data blocks m.seen s b clean.sound lt name has in same (32 * b + j) (omega arith);
     }

@@ -6,7 +6,7 @@ use Rattle.memory.specs.Stores.{Words, word, one, put, values_at}
 use Rattle.memory.specs.declared.word.Word.{Word}
 use Rattle.memory.proofs.Putting.{up-down, in_either, one-here, one-other, values-either}
 use Rattle.layout.specs.Image.{Same, table_of}
-use Rattle.layout.specs.Log.{Clean, FirstBusy, Holds, LeadsTo}
+use Rattle.layout.specs.Log.{Clean, FirstBusy, HoldsFiles, LeadsToFiles}
 use Rattle.layout.specs.Table.{Table, Ask, Reply, refuse, early, answer, after}
 use Rattle.images.proofs.Holding.{holds-own, clean-leads}
 use Rattle.image_check.specs.Answers.{RefusedBy}

@@ -7,9 +7,9 @@ use Rattle.memory.specs.declared.word.Word.{Word}
 use Rattle.memory.proofs.Putting.{up-down, in_either, one-here, one-other, put-append, values-either}
 use Rattle.layout.specs.Image.{Same, in_block, named, name_of, root_word, map_of, file_blocks, slot_blocks, files_of, table_of, DataBlock, GoodRoot}
 use Rattle.layout.specs.Lists.{member, Rearranged}
-use Rattle.layout.specs.Log.{Sound, Clean, Holds, LeadsTo}
+use Rattle.layout.specs.Log.{Sound, Clean, HoldsFiles, LeadsToFiles}
 use Rattle.layout.specs.Table.{Table, Ask, Reply, done, early, answer, change, after}
-use Rattle.images.proofs.Frame.{same-sound, same-holds}
+use Rattle.images.proofs.Frame.{same-sound, same-holds_files}
 use Rattle.images.proofs.Holding.{holds-files, holds_after, clean-leads}
 use Rattle.images.proofs.Pieces.{slot-data}
 use Rattle.images.proofs.Recovering.{Torn}
@@ -71,10 +71,10 @@ module _ (blocks : ℕ) (w u : Words) (a : Ask) (p x : ℕ) (big : 6 ≤ blocks)
       apart (inr more) e = let l = h.high in omega arith
 
   -- the last image holds the table after the call
-  held_after : Holds v (after (table_of w) a)
-  held_after = subst (Holds v) (sym (after-done (table_of w) a [] h.answered)) (holds-files blocks v (record { blocks = w 0; files = change (files_of w) a }) h.last.sound (outside 0 (inl (omega arith))) h.files)
+  held_after : HoldsFiles v (after (table_of w) a)
+  held_after = subst (HoldsFiles v) (sym (after-done (table_of w) a [] h.answered)) (holds-files blocks v (record { blocks = w 0; files = change (files_of w) a }) h.last.sound (outside 0 (inl (omega arith))) h.files)
 
-  torn-leads : (y : Words) (t : Table) → Holds w t → Torn blocks u (word p x ∷ []) y → LeadsTo blocks y t ⊎ LeadsTo blocks y (after t a)
+  torn-leads : (y : Words) (t : Table) → HoldsFiles w t → Torn blocks u (word p x ∷ []) y → LeadsToFiles blocks y t ⊎ LeadsToFiles blocks y (after t a)
   torn-leads y t holds torn =
       ⊎_elim
       (λ same. inl (clean-leads blocks u y t big same h.middle (holds-files blocks u t h.middle.sound (h.beside 0 (inl (omega arith)) ∙ holds.size) (subst (λ fs. Rearranged fs t.files) (sym h.held) holds.files))))
@@ -112,7 +112,7 @@ module _ {m k : Model} (us : List Word) (a : Ask) (p x : ℕ) (t : suits m.count
         up = stored.up;
         count = all.made.count;
         clean = record { sound = same-sound (m.count / 32) v n.seen big same h.last.sound; idle = same 8 (omega (arith, big)) ∙ h.last.idle };
-        holds = same-holds (m.count / 32) v n.seen (after (table_of m.seen) a) big same h.last.sound (held_after (m.count / 32) m.seen (put us m.seen) a p x big h);
+        holds = same-holds_files (m.count / 32) v n.seen (after (table_of m.seen) a) big same h.last.sound (held_after (m.count / 32) m.seen (put us m.seen) a p x big h);
         settled = λ _. settled;
         others = λ s b j lt name other has jt.
             let d = slot-data (m.count / 32) m.seen s b h.before.sound lt name has in

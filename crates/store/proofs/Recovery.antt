@@ -8,11 +8,11 @@ use Rattle.memory.specs.Stores.{Words, word, one, put, values_at}
 use Rattle.memory.specs.declared.word.Word.{Word}
 use Rattle.memory.proofs.Putting.{up-down, in_either, in_left, in_right, put_same}
 use Rattle.layout.specs.Image.{Same, root_word, named, Rule4}
-use Rattle.layout.specs.Log.{state, log_slot, follows, old_root, no_piece, piece_of, GoodPiece, putting_back, undoing, undone, puts_back, recovering, recovered, Sound, Clean, Holds, LeadsTo}
+use Rattle.layout.specs.Log.{state, log_slot, follows, old_root, no_piece, piece_of, GoodPiece, putting_back, undoing, undone, puts_back, recovering, recovered, Sound, Clean, HoldsFiles, LeadsToFiles}
 use Rattle.layout.specs.Table.{Table}
-use Rattle.images.proofs.Frame.{same-sound, same-holds}
+use Rattle.images.proofs.Frame.{same-sound, same-holds_files}
 use Rattle.images.proofs.Pieces.{file-data, putting_back-same, undoing-same}
-use Rattle.images.proofs.Recovering.{Torn, undone-same, undone-busy, recovered-idle, recovered-clean, recovered-same, leads-same, leads-undoing, leads-undone, leads-freeing}
+use Rattle.images.proofs.Recovering.{Torn, undone-same, undone-busy, recovered-idle, recovered-clean, recovered-same, leads_to_files-same, leads_to_files-undoing, leads_to_files-undone, leads_to_files-freeing}
 use Rattle.image_check.specs.Reading.{Looked, LookedDown}
 use Rattle.image_check.specs.declared.refusal.Refusal.{Refusal}
 use Rattle.image_check.specs.declared.refusal.Refusal.TheVariants.{PowerLost, BadImage, WrongSize}
@@ -88,8 +88,8 @@ module _ (blocks : ℕ) (m : Model) (big : 6 ≤ blocks) (size : 32 * blocks ≤
   pub torn-none : (v : Words) → Torn blocks m.seen [] v → Same blocks m.seen v
   torn-none v h i lt = ⊎_elim (λ e. e) (λ k. absurd k) (h i lt)
 
-  pub same-leads : (v : Words) (t : Table) → Same blocks m.seen v → LeadsTo blocks m.seen t → LeadsTo blocks v t
-  same-leads v t same leads = leads-same blocks m.seen v t big (same-sound blocks m.seen v big same leads.sound) (recovered-same blocks m.seen v big leads.sound same) leads
+  pub same-leads : (v : Words) (t : Table) → Same blocks m.seen v → LeadsToFiles blocks m.seen t → LeadsToFiles blocks v t
+  same-leads v t same leads = leads_to_files-same blocks m.seen v t big (same-sound blocks m.seen v big same leads.sound) (recovered-same blocks m.seen v big leads.sound same) leads
 
   -- cut off while pieces are put back, or before anything is stored
   pub taking-cut : {n : Model} → CutIn m (taken_back m.seen) n → RecoverCut blocks m n
@@ -100,7 +100,7 @@ module _ (blocks : ℕ) (m : Model) (big : 6 ≤ blocks) (size : 32 * blocks ≤
     leads = λ settled v drawn t leads.
         let found = torn (taken_back m.seen) v settled cut drawn in
         ⊎_elim
-        (λ u. leads-undoing blocks m.seen v t big leads u (subst (λ ss. Torn blocks m.seen ss v) (taken_back-undone m.seen u) found))
+        (λ u. leads_to_files-undoing blocks m.seen v t big leads u (subst (λ ss. Torn blocks m.seen ss v) (taken_back-undone m.seen u) found))
         (λ u. same-leads v t (torn-none v (subst (λ ss. Torn blocks m.seen ss v) (none-back m.seen u) found)) leads)
         (cases_Bool (undone m.seen));
   }
@@ -121,7 +121,7 @@ module _ (blocks : ℕ) (m : Model) (big : 6 ≤ blocks) (size : 32 * blocks ≤
         count = count;
         seen = seen;
         clean = record { sound = same-sound blocks (recovered m.seen) n.seen big same clean.sound; idle = same 8 (omega arith) ∙ clean.idle };
-        holds = λ t leads. same-holds blocks (recovered m.seen) n.seen t big same clean.sound leads.holds;
+        holds = λ t leads. same-holds_files blocks (recovered m.seen) n.seen t big same clean.sound leads.holds;
         settled = settled;
       }
 
@@ -153,8 +153,8 @@ module _ (blocks : ℕ) (m : Model) (big : 6 ≤ blocks) (size : 32 * blocks ≤
     leads = λ settled v drawn t leads.
         let found = torn-later (taken_back m.seen) (word 8 0 ∷ []) v made settles cut settled drawn in
         ⊎_elim
-        (λ u. leads-undone blocks m.seen v t big leads u (subst (λ ss. Torn blocks (put ss m.seen) (word 8 0 ∷ []) v) (taken_back-undone m.seen u) found))
-        (λ u. leads-freeing blocks m.seen v t big leads u (subst (λ ss. Torn blocks (put ss m.seen) (word 8 0 ∷ []) v) (none-back m.seen u) found))
+        (λ u. leads_to_files-undone blocks m.seen v t big leads u (subst (λ ss. Torn blocks (put ss m.seen) (word 8 0 ∷ []) v) (taken_back-undone m.seen u) found))
+        (λ u. leads_to_files-freeing blocks m.seen v t big leads u (subst (λ ss. Torn blocks (put ss m.seen) (word 8 0 ∷ []) v) (none-back m.seen u) found))
         (cases_Bool (undone m.seen));
   }
 

@@ -4,7 +4,7 @@ use Rattle.std.proofs.lemmas.Bool.{true≢false, cases_Bool}
 use Rattle.memory.specs.Model.{Model}
 use Rattle.memory.specs.Stores.{Words}
 use Rattle.memory.proofs.Putting.{up-down}
-use Rattle.image_check.specs.Check.{Checks}
+use Rattle.image_check.specs.Check.{Surveys}
 use Rattle.image_check.specs.Size.{suits}
 use Rattle.image_check.specs.declared.image.Survey.{Survey}
 use Rattle.image_check.specs.declared.refusal.Refusal.{Refusal}
@@ -21,7 +21,7 @@ use Rattle.store.specs.declared.log_entry.LogEntry.{LogEntry}
 use Rattle.store.proofs.Recovery.{good-puttable, looking-cut}
 
 -- a memory whose image was found sound has a size that suits
-pub sound-size : {m : Model} (n : Model) (s : Survey) → Checks m (Ok s) n → suits m.count ≡ true
+pub sound-size : {m : Model} (n : Model) (s : Survey) → Surveys m (Ok s) n → suits m.count ≡ true
 sound-size {m} n s checks = ⊎_elim (λ t. t) (λ f. absurd (apart (checks.refused f).0)) (cases_Bool (suits m.count))
   where
     is_ok : Result Survey Refusal → Bool
@@ -51,7 +51,7 @@ pub record Begun (m k : Model) (s : Survey) (e : LogEntry) : Type 0 where
   pub lists : Lists m.seen s.directory
   pub tells : Tells m.seen e
 
-pub begun : {m : Model} (j k : Model) (s : Survey) (e : LogEntry) → Checks m (Ok s) j → Looked j k → Tells j.seen e → Begun m k s e
+pub begun : {m : Model} (j k : Model) (s : Survey) (e : LogEntry) → Surveys m (Ok s) j → Looked j k → Tells j.seen e → Begun m k s e
 begun {m} j k s e checks looked tells =
     let t = sound-size j s checks in
     let b = size-blocks m.count (m.count / 32) t refl in
@@ -71,14 +71,14 @@ pub recovers-taken : {m : Model} (n : Model) (r : Result Bool Refusal) → suits
 recovers-taken {m} n r t h = record { refused = λ f. absurd (up-down (suits m.count) t f); taken = λ _. h }
 
 -- recovery refuses as the check does
-refuses : {m : Model} (n : Model) (e : Refusal) → Checks m (Err e) n → Recovers m (Err e) n
+refuses : {m : Model} (n : Model) (e : Refusal) → Surveys m (Err e) n → Recovers m (Err e) n
 refuses {m} n e checks = record { refused = λ f. (same (checks.refused f).0, (checks.refused f).1); taken = λ t. let b = size-blocks m.count (m.count / 32) t refl in refused-map e (looking-cut (m.count / 32) m b.0 b.2) (λ k h. h) (checks.taken t) }
   where
     same : ◌≡◌ {A = Result Survey Refusal} (Err e) (Err WrongSize) → ◌≡◌ {A = Result Bool Refusal} (Err e) (Err WrongSize)
     same h = cc
 
 -- the exit of a `?` after the check
-pub refuses-exit : {m : Model} (n : Model) (e : Refusal) (r : Result Bool Refusal) → IsErrAnd r (λ y. y ≡ e) → Checks m (Err e) n → Recovers m r n
+pub refuses-exit : {m : Model} (n : Model) (e : Refusal) (r : Result Bool Refusal) → IsErrAnd r (λ y. y ≡ e) → Surveys m (Err e) n → Recovers m r n
 refuses-exit n e (Ok x) h checks = absurd h
 refuses-exit {m} n e (Err y) h checks = subst (λ x. Recovers m (Err x) n) (sym h) (refuses n e checks)
 

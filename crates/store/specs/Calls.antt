@@ -4,7 +4,7 @@ use Rattle.memory.specs.Model.{Model, Settled}
 use Rattle.memory.specs.Stores.{Words}
 use Rattle.layout.specs.Image.{in_block, named, name_of, slot_blocks, table_of}
 use Rattle.layout.specs.Lists.{member}
-use Rattle.layout.specs.Log.{Clean, FirstBusy, Holds, LeadsTo}
+use Rattle.layout.specs.Log.{Clean, FirstBusy, HoldsFiles, LeadsToFiles}
 use Rattle.layout.specs.Table.{Table, Ask, Reply, done, refuse, early, on, answer, after}
 use Rattle.image_check.specs.Answers.{RefusedBy, number}
 use Rattle.image_check.specs.Check.{HasAll}
@@ -41,14 +41,14 @@ pub record CallCut (blocks : ℕ) (m : Model) (a : Ask) (n : Model) : Type 0 whe
   pub down : n.up ≡ false
   pub count : n.count ≡ m.count
   pub still : m.up ≡ false → n ≡ m
-  pub leads : Settled m → Clean blocks m.seen → (t : Table) → Holds m.seen t → (v : Words) → Drawn n v → LeadsTo blocks v t ⊎ LeadsTo blocks v (after t a)
+  pub leads : Settled m → Clean blocks m.seen → (t : Table) → HoldsFiles m.seen t → (v : Words) → Drawn n v → LeadsToFiles blocks v t ⊎ LeadsToFiles blocks v (after t a)
 
 -- The call was done: the image seen holds the table after it, and the blocks of the other files are untouched.
 pub record Changed (blocks : ℕ) (m : Model) (a : Ask) (n : Model) : Type 0 where
   pub up : n.up ≡ true
   pub count : n.count ≡ m.count
   pub clean : Clean blocks n.seen
-  pub holds : Holds n.seen (after (table_of m.seen) a)
+  pub holds : HoldsFiles n.seen (after (table_of m.seen) a)
   pub settled : Settled m → Settled n
   pub others : (s b j : ℕ) → s < 16 → named m.seen s ≡ true → (name_of m.seen s ≢ on a) → member b (slot_blocks m.seen s) ≡ true → j < 32 → in_block n.seen b j ≡ in_block m.seen b j
 

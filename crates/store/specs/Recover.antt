@@ -3,7 +3,7 @@ use Rattle.std.specs.Prelude.{◌≡◌, ℕ, ◌+◌, ◌*◌, ◌/◌, ◌<◌
 use Rattle.memory.specs.Model.{Model, Settled}
 use Rattle.memory.specs.Stores.{Words}
 use Rattle.memory.specs.declared.word.Word.{Word}
-use Rattle.layout.specs.Log.{no_piece, piece_of, undoing, undone, puts_back, recovered, Sound, Clean, FirstBroken, Holds, LeadsTo}
+use Rattle.layout.specs.Log.{no_piece, piece_of, undoing, undone, puts_back, recovered, Sound, Clean, FirstBroken, HoldsFiles, LeadsToFiles}
 use Rattle.layout.specs.Table.{Table}
 use Rattle.image_check.specs.Answers.{RefusedBy}
 use Rattle.image_check.specs.Reading.{Looked}
@@ -22,7 +22,7 @@ pub record RecoverDone (blocks : ℕ) (m : Model) (put : Bool) (n : Model) : Typ
   pub count : n.count ≡ m.count
   pub seen : (i : ℕ) → i < m.count → n.seen i ≡ recovered m.seen i
   pub clean : Clean blocks n.seen
-  pub holds : (t : Table) → LeadsTo blocks m.seen t → Holds n.seen t
+  pub holds : (t : Table) → LeadsToFiles blocks m.seen t → HoldsFiles n.seen t
   pub settled : Settled m → Settled n
 
 -- Recovery is cut off: from a settled memory, whatever image is found leads to the table that the image led to.
@@ -30,7 +30,7 @@ pub record RecoverCut (blocks : ℕ) (m n : Model) : Type 0 where
   pub down : n.up ≡ false
   pub count : n.count ≡ m.count
   pub still : m.up ≡ false → n ≡ m
-  pub leads : Settled m → (v : Words) → Drawn n v → (t : Table) → LeadsTo blocks m.seen t → LeadsTo blocks v t
+  pub leads : Settled m → (v : Words) → Drawn n v → (t : Table) → LeadsToFiles blocks m.seen t → LeadsToFiles blocks v t
 
 abbrev pub Recovering : ℕ → Model → Result Bool Refusal → Model → Type 0
 Recovering blocks m (Ok put) n = RecoverDone blocks m put n

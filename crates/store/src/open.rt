@@ -3,7 +3,7 @@ ghost use Rattle.memory.specs.Bytes.{bytes_of};
 ghost use Rattle.store.specs.Calls.{Opens};
 
 use crate::phase::load_word;
-use image_check::image::{Survey, check_image};
+use image_check::image::{Survey, survey_image};
 use image_check::refusal::Refusal;
 use memory::memory::Memory;
 
@@ -12,7 +12,7 @@ pub(crate) fn open<M: Memory>(memory: &mut M) -> Result<Survey, Refusal>
     ensures opens { Opens (M.Memory.model memory.old) result (M.Memory.model memory.new) }
     ensures lent { M.Memory.lent memory.new ≡ M.Memory.lent memory.old }
 {
-    let survey = check_image(memory)?;
+    let survey = survey_image(memory)?;
     if load_word(memory, 8)? != 0 {
         return Err(Refusal::BadImage(6));
     }

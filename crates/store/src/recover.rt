@@ -8,7 +8,7 @@ ghost use Rattle.store.specs.Recover.{Puttable, TakenBack, Recovers};
 
 use crate::log_entry::{LogEntry, load_log_entry};
 use crate::phase::{copy_run, persist_word, settle};
-use image_check::image::check_image;
+use image_check::image::survey_image;
 use image_check::refusal::Refusal;
 use layout::log::Piece;
 use memory::memory::Memory;
@@ -73,7 +73,7 @@ pub fn recover<M: Memory>(memory: &mut M) -> Result<bool, Refusal>
     ensures cases { Every Right cases }
     ensures lent { M.Memory.lent memory.new ≡ M.Memory.lent memory.old }
 {
-    let survey = check_image(memory)?;
+    let survey = survey_image(memory)?;
     let entry = load_log_entry(memory)?;
     if entry.state == 0 {
         return Ok(false);

@@ -1,2 +1,4 @@
 // The words that wait in a cache.
+#![tactic(auto)]
+
 pub mod words;

@@ -1,55 +1,27 @@
-use Rattle.std.proofs.Common.{length, Some, decimal, refl, ap, arith}
-use Rattle.console.specs.Lines.{line}
-use Rattle.console.proofs.Lengths.{fits-from, over-from, length-line}
-use Rattle.console.proofs.Writing.{length-written, line-written}
+use Rattle.std.proofs.Common.{◌≡◌, ℕ, ◌+◌, ◌<◌, ◌≤◌, Bool, true, false, cond, ltb, length, Some, None, decimal, Option, sym, ap, ◌∙◌, subst, arith, rules}
+use Rattle.std.proofs.lemmas.Bool.Decides.{nat_tests}
+use Rattle.console.specs.Lines.{line, written}
+use Rattle.console.proofs.Writing.{short, line-written}
 use Rattle.console.proofs.line.write_line.Goals as goal
 
-pub returns-then-not-fits : goal.returns-then-not-fits
-returns-then-not-fits c =
-    let over = over-from (length (line c.args.letter c.args.answer c.args.shown.now)) (length c.args.out.now) (c.if-not-fits.ensures.value c.args.letter) in
-    record { writes = record { whole = λ le. absurd (omega arith); short = λ _. (refl, refl) }; bound = tt; few = c.fits.ensures.few c.args.letter }
-
-pub put-at-requires : goal.put-at-requires
-put-at-requires c =
-    let room = fits-from (length (line c.args.letter c.args.answer c.args.shown.now)) (length c.args.out.now) (c.if-not-fits.ensures.value c.args.letter) in
-    omega arith
-
-pub put-at-requires-2 : goal.put-at-requires-2
-put-at-requires-2 c =
-    let room = fits-from (length (line c.args.letter c.args.answer c.args.shown.now)) (length c.args.out.now) (c.if-not-fits.ensures.value c.args.letter) in
-    omega (arith, length-line c.args.letter c.args.answer c.args.shown.now)
-
-pub put_decimal-at-requires : goal.put_decimal-at-requires
-put_decimal-at-requires c =
-    let room = fits-from (length (line c.args.letter c.args.answer c.args.shown.now)) (length c.args.out.now) (c.if-not-fits.ensures.value c.args.letter) in
-    omega (arith, length-line c.args.letter c.args.answer c.args.shown.now, ap (λ x. length (decimal x)) c.from.ensures)
-
-pub put_carried-at-requires : goal.put_carried-at-requires
-put_carried-at-requires c =
-    let room = fits-from (length (line c.args.letter c.args.answer c.args.shown.now)) (length c.args.out.now) (c.if-not-fits.ensures.value c.args.letter) in
-    omega (arith, length-line c.args.letter c.args.answer c.args.shown.now, ap (λ x. length (decimal x)) c.from.ensures)
-
-pub put_shown-at-requires : goal.put_shown-at-requires
-put_shown-at-requires c =
-    let room = fits-from (length (line c.args.letter c.args.answer c.args.shown.now)) (length c.args.out.now) (c.if-not-fits.ensures.value c.args.letter) in
-    omega (arith, length-line c.args.letter c.args.answer c.args.shown.now, ap (λ x. length (decimal x)) c.from.ensures)
+pub put-decimal-at-requires : goal.put-decimal-at-requires
+put-decimal-at-requires c = omega (arith, short c.from.result (omega (arith, c.from.ensures, c.ranges.number)))
 
 pub put-requires : goal.put-requires
-put-requires c =
-    let room = fits-from (length (line c.args.letter c.args.answer c.args.shown.now)) (length c.args.out.now) (c.if-not-fits.ensures.value c.args.letter) in
-    omega (arith, length-line c.args.letter c.args.answer c.args.shown.now, ap (λ x. length (decimal x)) c.from.ensures)
+put-requires c = omega (arith, short c.from.result (omega (arith, c.from.ensures, c.ranges.number)))
 
 pub returns : goal.returns
 returns c =
-    let room = fits-from (length (line c.args.letter c.args.answer c.args.shown.now)) (length c.args.out.now) (c.if-not-fits.ensures.value c.args.letter) in
-    let w = line-written c.args.out.now c.put-at.new.out c.put-at-2.new.out c.put_decimal-at.new.out c.put_carried-at.new.out c.put_shown-at.new.out c.put.new.out
-    c.args.letter c.from.result c.put-at.result c.put-at-2.result c.put_decimal-at.result c.put_carried-at.result c.put_shown-at.result c.put.result
-    c.args.answer c.args.shown.now c.from.ensures room
+    let n = c.from.ensures in
+    let w = line-written c.args.out.now c.put-at.new.out c.put-at-2.new.out c.put-decimal-at.new.out c.put.new.out c.args.letter c.args.number
+    c.put-at.result c.put-at-2.result c.put-decimal-at.result c.put.result (omega (arith, c.ranges.number)) c.if-out-lt-LINE.false
     c.put-at.ensures.value c.put-at.ensures.after c.put-at-2.ensures.value c.put-at-2.ensures.after
-    c.put_decimal-at.ensures.value c.put_decimal-at.ensures.after c.put_carried-at.ensures.value c.put_carried-at.ensures.after
-    c.put_shown-at.ensures.value c.put_shown-at.ensures.after c.put.ensures.value c.put.ensures.after in
+    (subst (λ x. c.put-decimal-at.result ≡ c.put-at-2.result + length (decimal x)) n c.put-decimal-at.ensures.value)
+    (subst (λ x. c.put-decimal-at.new.out ≡ written c.put-at-2.new.out c.put-at-2.result (decimal x)) n c.put-decimal-at.ensures.after)
+    c.put.ensures.value c.put.ensures.after in
+    let long : ltb (length c.args.out.now) 72 ≡ false = grind (arith, nat_tests, c.if-out-lt-LINE.false) in
     record {
-      writes = record { whole = λ _. (ap Some w.0, w.1); short = λ lt. absurd (omega arith) };
-      bound = omega (arith, w.0, ap length w.1, length-written c.args.out.now 0 (line c.args.letter c.args.answer c.args.shown.now) (omega arith));
-      few = c.fits.ensures.few c.args.letter;
+      value = ap Some w.0 ∙ ap (λ (b : Bool). cond b None (Some (length (line c.args.letter c.args.number)))) (sym long);
+      bound = omega (arith, short c.from.result (omega (arith, n, c.ranges.number)));
+      after = w.1 ∙ ap (λ (b : Bool). cond b c.args.out.now (written c.args.out.now 0 (line c.args.letter c.args.number))) (sym long);
     }

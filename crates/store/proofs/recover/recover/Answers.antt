@@ -11,7 +11,7 @@ pub returns-in_err-survey : goal.returns-in_err-survey
 returns-in_err-survey g c =
     let h = c.in_err-survey.ensures in
     record {
-      recovers = refuses-exit (g.M.Memory.model c.check_image.new.memory) c.in_err-survey.field-0.0 c.from_residual.result c.from_residual.ensures.1 h.checks;
+      recovers = refuses-exit (g.M.Memory.model c.survey_image.new.memory) c.in_err-survey.field-0.0 c.from_residual.result c.from_residual.ensures.1 h.surveys;
       cases = cases-right;
       lent = h.lent;
     }
@@ -20,13 +20,13 @@ pub returns-in_err-entry : goal.returns-in_err-entry
 returns-in_err-entry g c =
     let m = g.M.Memory.model c.args.memory.now in
     let check = c.in_ok-survey.ensures in
-    let t = sound-size (g.M.Memory.model c.check_image.new.memory) c.in_ok-survey.survey check.checks in
+    let t = sound-size (g.M.Memory.model c.survey_image.new.memory) c.in_ok-survey.survey check.surveys in
     let b = size-blocks m.count (m.count / 32) t refl in
     let h = c.in_err-entry.ensures in
     let r = c.from_residual-in_err-entry in
     record {
       recovers = cut-exit (g.M.Memory.model c.load_log_entry.new.memory) c.in_err-entry.field-0.0 r.result r.ensures.1 h.reads.1 t
-          (looking-cut (m.count / 32) m b.0 b.2 (looked-down (check.checks.taken t).0 h.reads.0));
+          (looking-cut (m.count / 32) m b.0 b.2 (looked-down (check.surveys.taken t).0 h.reads.0));
       cases = cases-right;
       lent = h.lent ∙ check.lent;
     }
@@ -37,7 +37,7 @@ returns-then-entry-eq0 g c =
     let k = g.M.Memory.model c.load_log_entry.new.memory in
     let check = c.in_ok-survey.ensures in
     let load = c.in_ok-entry.ensures in
-    let b = begun {m = m} (g.M.Memory.model c.check_image.new.memory) k c.in_ok-survey.survey c.in_ok-entry.entry check.checks load.reads.0 load.reads.1 in
+    let b = begun {m = m} (g.M.Memory.model c.survey_image.new.memory) k c.in_ok-survey.survey c.in_ok-entry.entry check.surveys load.reads.0 load.reads.1 in
     record {
       recovers = recovers-taken k (Ok false) b.suitable (idle-done (m.count / 32) m b.big b.size b.looked b.sound (sym b.tells.state ∙ c.if-entry-eq0.true));
       cases = cases-right;
@@ -51,7 +51,7 @@ take_back-requires g c =
     let s = c.in_ok-survey.survey in
     let e = c.in_ok-entry.entry in
     let load = c.in_ok-entry.ensures in
-    let b = begun {m = m} (g.M.Memory.model c.check_image.new.memory) k s e c.in_ok-survey.ensures.checks load.reads.0 load.reads.1 in
+    let b = begun {m = m} (g.M.Memory.model c.survey_image.new.memory) k s e c.in_ok-survey.ensures.surveys load.reads.0 load.reads.1 in
     record {
       up = b.looked.up;
       size = subst (λ x. 96 ≤ x) (sym b.looked.fewer.same_count) (size-enough m.count b.suitable);
@@ -72,7 +72,7 @@ returns-in_err-put g c =
     let load = c.in_ok-entry.ensures in
     let h = c.in_err-put.ensures in
     let r = c.from_residual-in_err-put in
-    let b = begun {m = m} (g.M.Memory.model c.check_image.new.memory) k s e check.checks load.reads.0 load.reads.1 in
+    let b = begun {m = m} (g.M.Memory.model c.survey_image.new.memory) k s e check.surveys load.reads.0 load.reads.1 in
     record {
       recovers = cut-exit n c.in_err-put.field-0.0 r.result r.ensures.1 h.taken.1 b.suitable
           (taking-cut (m.count / 32) m b.big b.size (taken-cut (m.count / 32) b.big b.size b.sound (busy s e b c.if-entry-eq0.false) b.looked h.taken.0));
@@ -92,7 +92,7 @@ returns-in_err-persist_word g c =
     let take = c.in_ok-put.ensures in
     let h = c.in_err-persist_word.ensures in
     let r = c.from_residual-in_err-persist_word in
-    let b = begun {m = m} (g.M.Memory.model c.check_image.new.memory) k s e check.checks load.reads.0 load.reads.1 in
+    let b = begun {m = m} (g.M.Memory.model c.survey_image.new.memory) k s e check.surveys load.reads.0 load.reads.1 in
     let taken = taken-done (m.count / 32) b.big b.size b.sound (busy s e b c.if-entry-eq0.false) b.looked c.in_ok-put.put take.taken in
     record {
       recovers = cut-exit n c.in_err-persist_word.field-0.0 r.result r.ensures.1 h.done.1 b.suitable
@@ -112,7 +112,7 @@ returns g c =
     let load = c.in_ok-entry.ensures in
     let take = c.in_ok-put.ensures in
     let h = c.in_ok-persist_word.ensures in
-    let b = begun {m = m} (g.M.Memory.model c.check_image.new.memory) k s e check.checks load.reads.0 load.reads.1 in
+    let b = begun {m = m} (g.M.Memory.model c.survey_image.new.memory) k s e check.surveys load.reads.0 load.reads.1 in
     let some = busy s e b c.if-entry-eq0.false in
     let taken = taken-done (m.count / 32) b.big b.size b.sound some b.looked c.in_ok-put.put take.taken in
     record {

@@ -1,0 +1,4 @@
+pub mod Lengths
+pub mod Parsing
+pub mod Showing
+pub mod Writing

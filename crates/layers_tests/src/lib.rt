@@ -1,3 +1,5 @@
+#![tactic(auto)]
+
 // Tests of the layers over the bottom memories.
 #[cfg(test)]
 mod image_tests;

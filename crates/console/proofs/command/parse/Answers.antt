@@ -18,4 +18,4 @@ pub returns-in-75 : goal.returns-in-75
 returns-in-75 c =
     let some : 2 < length c.args.input.now = search rules in
     let first : get_or c.args.input.now 0 0 ≡ 75 = search rules in
-    record { value = parsed-cut-point c.args.input.now c.from-le-bytes.result some first c.from-le-bytes.ensures; shorter = search rules }
+    record { value = parsed-cut-point c.args.input.now c.from_le_bytes.result some first c.from_le_bytes.ensures; shorter = search rules }

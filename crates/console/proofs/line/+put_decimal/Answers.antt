@@ -10,8 +10,8 @@ returns-then-number-lt10 t c =
     let w = digit-written c.args.out.now c.put.new.out c.args.at c.args.number c.put.result c.if-number-lt10.true c.put.ensures.value c.put.ensures.after in
     record { value = w.0; after = w.1 }
 
-pub put-decimal-next-requires : goal.put-decimal-next-requires
-put-decimal-next-requires t c =
+pub put_decimal-next-requires : goal.put_decimal-next-requires
+put_decimal-next-requires t c =
     let long = length-step c.args.number c.if-number-lt10.false (omega (arith, c.ranges.number)) in
     (omega (arith, c.decreases), omega (arith, long, c.requires))
 
@@ -19,10 +19,10 @@ pub put-requires-2 : goal.put-requires-2
 put-requires-2 t c =
     let long = length-step c.args.number c.if-number-lt10.false (omega (arith, c.ranges.number)) in
     let same = length-written c.args.out.now c.args.at (decimal (c.args.number / 10)) (omega (arith, long, c.requires)) in
-    omega (arith, long, same, c.requires, ap length c.put-decimal-next.ensures.after, c.put-decimal-next.ensures.value)
+    omega (arith, long, same, c.requires, ap length c.put_decimal-next.ensures.after, c.put_decimal-next.ensures.value)
 
 pub returns : goal.returns
 returns t c =
-    let w = digits-written c.args.out.now c.put-decimal-next.new.out c.put-2.new.out c.args.at c.put-decimal-next.result c.args.number c.put-2.result
-    c.if-number-lt10.false (omega (arith, c.ranges.number)) c.requires c.put-decimal-next.ensures.value c.put-decimal-next.ensures.after c.put-2.ensures.value c.put-2.ensures.after in
+    let w = digits-written c.args.out.now c.put_decimal-next.new.out c.put-2.new.out c.args.at c.put_decimal-next.result c.args.number c.put-2.result
+    c.if-number-lt10.false (omega (arith, c.ranges.number)) c.requires c.put_decimal-next.ensures.value c.put_decimal-next.ensures.after c.put-2.ensures.value c.put-2.ensures.after in
     record { value = w.0; after = w.1 }

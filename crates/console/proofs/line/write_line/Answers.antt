@@ -4,8 +4,8 @@ use Rattle.console.specs.Lines.{line, written}
 use Rattle.console.proofs.Writing.{short, line-written}
 use Rattle.console.proofs.line.write_line.Goals as goal
 
-pub put-decimal-at-requires : goal.put-decimal-at-requires
-put-decimal-at-requires c = omega (arith, short c.from.result (omega (arith, c.from.ensures, c.ranges.number)))
+pub put_decimal-at-requires : goal.put_decimal-at-requires
+put_decimal-at-requires c = omega (arith, short c.from.result (omega (arith, c.from.ensures, c.ranges.number)))
 
 pub put-requires : goal.put-requires
 put-requires c = omega (arith, short c.from.result (omega (arith, c.from.ensures, c.ranges.number)))
@@ -13,11 +13,11 @@ put-requires c = omega (arith, short c.from.result (omega (arith, c.from.ensures
 pub returns : goal.returns
 returns c =
     let n = c.from.ensures in
-    let w = line-written c.args.out.now c.put-at.new.out c.put-at-2.new.out c.put-decimal-at.new.out c.put.new.out c.args.letter c.args.number
-    c.put-at.result c.put-at-2.result c.put-decimal-at.result c.put.result (omega (arith, c.ranges.number)) c.if-out-lt-LINE.false
+    let w = line-written c.args.out.now c.put-at.new.out c.put-at-2.new.out c.put_decimal-at.new.out c.put.new.out c.args.letter c.args.number
+    c.put-at.result c.put-at-2.result c.put_decimal-at.result c.put.result (omega (arith, c.ranges.number)) c.if-out-lt-LINE.false
     c.put-at.ensures.value c.put-at.ensures.after c.put-at-2.ensures.value c.put-at-2.ensures.after
-    (subst (λ x. c.put-decimal-at.result ≡ c.put-at-2.result + length (decimal x)) n c.put-decimal-at.ensures.value)
-    (subst (λ x. c.put-decimal-at.new.out ≡ written c.put-at-2.new.out c.put-at-2.result (decimal x)) n c.put-decimal-at.ensures.after)
+    (subst (λ x. c.put_decimal-at.result ≡ c.put-at-2.result + length (decimal x)) n c.put_decimal-at.ensures.value)
+    (subst (λ x. c.put_decimal-at.new.out ≡ written c.put-at-2.new.out c.put-at-2.result (decimal x)) n c.put_decimal-at.ensures.after)
     c.put.ensures.value c.put.ensures.after in
     let long : ltb (length c.args.out.now) 72 ≡ false = grind (arith, nat_tests, c.if-out-lt-LINE.false) in
     record {

@@ -1,5 +1,5 @@
 -- What a session does with a command in each of its states.
-use Rattle.std.specs.Prelude.{◌≡◌, ℕ, ◌<◌, ◌≤◌, Bool, true, false, cond, ◌⊎◌, List, [], ◌∷◌, length, Some, None, Ok, Err, Option, Result, ◌==◌}
+use Rattle.std.specs.Prelude.{◌≡◌, ℕ, ◌<◌, ◌≤◌, Bool, cond, ◌⊎◌, List, [], length, Some, None, Ok, Err, Option, Result, ◌==◌}
 use Rattle.memory.specs.Model.{Model, Restarted}
 use Rattle.image_check.specs.Answers.{number}
 use Rattle.store.specs.Format.{Formats}

@@ -1,3 +1,5 @@
+#![tactic(auto)]
+
 use file_console::line::LINE;
 use file_console::state::State;
 use file_console::turn::take_turn;

@@ -1,3 +1,5 @@
+#![tactic(auto)]
+
 // Tests of the file calls.
 #[cfg(test)]
 mod bench;

@@ -26,7 +26,11 @@ fn shortens_to(rt: &impl Abort, length: u32) -> Result<(), Fail> {
     expected[600..608].copy_from_slice(&root_word(length).to_le_bytes());
     let mut memory = ByteImage::new(&mut bytes);
     assert!(rt; memory.restart());
-    assert_eq!(rt; shorten(&mut memory, B, length), Ok(()), "to {length} bytes");
+    assert_eq!(rt;
+        shorten(&mut memory, B, length),
+        Ok(()),
+        "to {length} bytes"
+    );
     assert_eq!(rt; memory.load(75), Ok(root_word(length)), "to {length} bytes");
     check_read(rt, &mut memory, length, 0, 320);
     check_read(rt, &mut memory, length, 250, 64);

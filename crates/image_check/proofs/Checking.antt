@@ -1,26 +1,25 @@
 -- What the parts of the image check come to. Assumes nothing.
-use Rattle.std.proofs.Common.{◌≡◌, ℕ, ◌+◌, ◌*◌, ◌/◌, ◌<◌, ◌≤◌, Bool, true, false, cond, not, eqb, ◌⊎◌, List, get_or, IsErrAnd, Ok, Err, Decides, Result, sym, refl, ap, ◌∙◌, subst, inl, inr, ⊎_elim, arith, below_more}
+use Rattle.std.proofs.Common.{◌≡◌, ℕ, ◌+◌, ◌*◌, ◌<◌, ◌≤◌, Bool, true, false, cond, not, eqb, get_or, IsErrAnd, Ok, Err, Decides, Result, sym, ap, ◌∙◌, subst, arith, below_more}
 use native.Mathlib.Decide.{ℕ_discrete}
 use Rattle.std.proofs.lemmas.Bool.Decides.{nat_tests}
-use Rattle.memory.specs.Model.{Model, SameSeen}
+use Rattle.memory.specs.Model.{Model}
 use Rattle.memory.specs.Bytes.{bytes_of}
 use Rattle.memory.specs.Stores.{Words}
 use Rattle.memory.proofs.Putting.{up-down}
-use Rattle.layout.specs.Image.{Same, named, name_word, name_of, root_word, map_of, length_of, in_block, used_blocks, GoodRoot, DataBlock, Rule1, Rule2, Rule3, Rule4, Rule5}
+use Rattle.layout.specs.Image.{Same, named, name_word, root_word, map_of, length_of, in_block, used_blocks, GoodRoot, DataBlock, Rule1, Rule2, Rule3, Rule4, Rule5}
 use Rattle.layout.specs.Log.{Rule, Rule6, Sound, FirstBroken}
 use Rattle.layout.specs.Lists.{member, distinct}
 use Rattle.layout.specs.Names.{well_formed}
 use Rattle.layout.specs.Touch.{blocks_for}
 use Rattle.layout.specs.declared.block_set.BlockSet.{BlockSet}
 use Rattle.images.proofs.Frame.{SameMaps, same_blocks, same-rules, same-sound, good-map}
-use Rattle.image_check.specs.Check.{Formed, Single, Differ, Rooted, MapGood, Mapped, HasAll, Listed, Checked, Surveyed}
+use Rattle.image_check.specs.Check.{Formed, Differ, Rooted, MapGood, Mapped, HasAll, Listed, Checked, Surveyed}
 use Rattle.image_check.specs.Directory.{Lists}
-use Rattle.image_check.specs.Size.{suits}
 use Rattle.image_check.specs.Reading.{Looked, LookedDown}
 use Rattle.image_check.specs.declared.image.Survey.{Survey}
 use Rattle.image_check.specs.declared.reading.Directory.{Directory}
 use Rattle.image_check.specs.declared.refusal.Refusal.{Refusal}
-use Rattle.image_check.specs.declared.refusal.Refusal.TheVariants.{PowerLost, BadImage, WrongSize}
+use Rattle.image_check.specs.declared.refusal.Refusal.TheVariants.{PowerLost}
 use Rattle.image_check.proofs.Looking.{looked-more, looked-down, refused-map}
 
 nonzero : (x : ℕ) → not (eqb x 0) ≡ true → x ≡ 0 → ⊥

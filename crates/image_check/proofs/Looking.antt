@@ -1,5 +1,5 @@
 -- One load after another. Assumes nothing.
-use Rattle.std.proofs.Common.{◌≡◌, ℕ, ◌+◌, ◌<◌, Bool, true, false, List, length, get_or, set, IsErrAnd, Ok, Err, Result, sym, refl, ap, ◌∙◌, subst}
+use Rattle.std.proofs.Common.{◌≡◌, ℕ, ◌+◌, ◌<◌, true, List, length, get_or, set, IsErrAnd, Ok, Err, Result, sym, refl, ap, ◌∙◌, subst}
 use Rattle.std.proofs.lemmas.List.Edits.{fill_by_more}
 use Rattle.memory.specs.Model.{Model, Fewer}
 use Rattle.memory.proofs.Putting.{up-down}

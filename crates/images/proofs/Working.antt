@@ -1,10 +1,9 @@
 -- The worked cases come out as they are listed. Assumes nothing.
-use Rattle.std.proofs.Common.{◌≡◌, ℕ, Bool, true, false, ◌&&◌, ◌||◌, eqb, Some, None, refl, ap, ◌∙◌, arith}
-use Rattle.std.proofs.lemmas.Bool.Decides.{nat_tests}
+use Rattle.std.proofs.Common.{◌≡◌, ℕ, Bool, true, false, ◌&&◌, ◌||◌, eqb, Some, None, refl, arith}
 use Rattle.memory.specs.Stores.{Words}
 use Rattle.layout.specs.Image.{root_word}
 use Rattle.layout.specs.Log.{state, log_slot, follows, old_root, undone}
-use Rattle.layout.specs.Cases.{Case, recovery, Right, Every, cases}
+use Rattle.layout.specs.Cases.{recovery, Right, Every, cases}
 use Rattle.images.proofs.Recovering.{recovered-undone, recovered-kept}
 
 -- whether a call is undone, by its state, its follow mark and whether the root word is the old one

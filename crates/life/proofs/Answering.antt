@@ -1,12 +1,12 @@
 -- What the table says of a call, by its arguments and its answer. Assumes nothing.
-use Rattle.std.proofs.Common.{◌≡◌, ℕ, ◌+◌, ◌-◌, ◌<◌, ◌≤◌, Bool, true, false, cond, not, ◌&&◌, eqb, leb, ◌⊎◌, List, [], ◌∷◌, ◌++◌, length, take, drop, replicate, Some, None, Option, sym, refl, ap, ◌∙◌, subst, inl, inr, ⊎_elim, arith}
+use Rattle.std.proofs.Common.{◌≡◌, ℕ, ◌+◌, ◌-◌, Bool, true, false, cond, not, ◌&&◌, eqb, leb, ◌⊎◌, List, length, replicate, Some, None, Option, sym, refl, ap, ◌∙◌, inl, inr, ⊎_elim, arith}
 use Rattle.std.proofs.lemmas.Bool.{true≢false, cases_Bool, cases_eq, ne_eqb, eq-eqb}
 use Rattle.memory.specs.Model.{Model}
 use Rattle.memory.specs.Stores.{Words}
 use Rattle.layout.specs.Image.{Rule1, Rule2, Rule3, Rule4, Rule5, table_of}
 use Rattle.layout.specs.Log.{Rule6, Rule, Sound, Clean, FirstBroken, FirstBusy, HoldsFiles}
 use Rattle.layout.specs.Names.{well_formed}
-use Rattle.layout.specs.Table.{Table, Ask, create, write, read, shorten, rename, remove, Reply, done, refuse, find, longest, early, answer, change, after, buffer}
+use Rattle.layout.specs.Table.{Table, Ask, create, write, read, shorten, rename, remove, Reply, refuse, find, longest, early, answer, change, after, buffer}
 use Rattle.images.proofs.Holding.{holds-buffer}
 use Rattle.life.specs.Life.{Shows, Blank}
 use Rattle.life.specs.Step.{Buffered}

@@ -1,10 +1,9 @@
 -- A formatted memory holds no files, and so a life can begin. Assumes nothing.
-use Rattle.std.proofs.Common.{◌≡◌, ℕ, ◌+◌, ◌*◌, ◌/◌, ◌<◌, ◌≤◌, Bool, true, false, cond, not, eqb, List, [], ◌∷◌, ◌++◌, map, reverse, length, get_or, take, Ok, Err, Result, sym, refl, ap, ◌∙◌, subst, ⊎_elim, arith}
+use Rattle.std.proofs.Common.{◌≡◌, ℕ, ◌+◌, ◌*◌, ◌/◌, ◌<◌, ◌≤◌, Bool, true, false, not, eqb, List, [], ◌∷◌, ◌++◌, map, reverse, length, get_or, take, Ok, Err, Result, sym, refl, ap, ◌∙◌, subst, ⊎_elim, arith}
 use Rattle.std.proofs.lemmas.List.{reverse-append, map-append, length-map, get_or-map, take_more}
 use Rattle.std.proofs.lemmas.Bool.{true≢false, cases_Bool}
 use Rattle.std.proofs.lemmas.Bool.Decides.{nat_tests}
-use Rattle.std.specs.List.{range_with_len, flat_map}
-use Rattle.memory.specs.Model.{Model, Settled, SeenMay}
+use Rattle.memory.specs.Model.{Model, SeenMay}
 use Rattle.memory.specs.Stores.{Words}
 use Rattle.layout.specs.Image.{named, name_word, slot_blocks, slot_files, used_blocks, files_of}
 use Rattle.layout.specs.Lists.{distinct}
@@ -20,7 +19,7 @@ use Rattle.image_check.proofs.Sizing.{size-blocks}
 use Rattle.image_check.specs.declared.refusal.Refusal.{Refusal}
 use Rattle.store.specs.Format.{formatted, Formatted, Formats}
 use Rattle.life.specs.Asked.{Asked, restart, asked}
-use Rattle.life.specs.Life.{Event, is_done, ready_after, ready, Explained, begins, empty, Lived}
+use Rattle.life.specs.Life.{Event, is_done, ready_after, ready, begins, empty, Lived}
 use Rattle.life.specs.Step.{Did}
 use Rattle.life.specs.Told.{reply_of, event}
 use Rattle.life.specs.declared.answer.Answer.{Answer}

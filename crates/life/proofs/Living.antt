@@ -1,7 +1,7 @@
 -- A life goes on: what each call does keeps what is known of the memory, and the table explains it. Assumes nothing.
-use Rattle.std.proofs.Common.{◌≡◌, ℕ, ◌*◌, ◌/◌, ◌<◌, ◌≤◌, Bool, true, false, cond, ◌||◌, eqb, ◌⊎◌, List, [], ◌∷◌, Some, None, Ok, Err, Result, sym, refl, ap, ◌∙◌, subst, inl, inr, ⊎_elim, arith}
+use Rattle.std.proofs.Common.{◌≡◌, ℕ, ◌*◌, ◌/◌, ◌<◌, ◌≤◌, Bool, true, false, cond, ◌⊎◌, List, [], ◌∷◌, Some, Ok, Err, Result, sym, refl, ap, ◌∙◌, subst, inl, inr, ⊎_elim, arith}
 use Rattle.std.proofs.lemmas.Bool.{true≢false, eqb-true, cases_Bool, cases_eq}
-use Rattle.memory.specs.Model.{Model, In, Settled, SeenMay, Restarted, WentDown}
+use Rattle.memory.specs.Model.{Model, In, Settled, Restarted}
 use Rattle.memory.specs.Stores.{Words}
 use Rattle.memory.proofs.Putting.{up-down}
 use Rattle.layout.specs.Image.{Same}
@@ -19,7 +19,7 @@ use Rattle.store.specs.Phase.{Drawn}
 use Rattle.store.specs.Recover.{RecoverDone, RecoverCut, Recovering}
 use Rattle.store.proofs.Recovery.{looked-settled, same-leads}
 use Rattle.life.specs.Asked.{Asked, restart, recover, file}
-use Rattle.life.specs.Life.{Event, is_done, ready_after, ready, latest, Stands, Cut, Shows, FileTakes, RecoverTakes, RestartTakes, Takes, Explained, begins, goes_on, empty}
+use Rattle.life.specs.Life.{Event, ready, latest, Shows, FileTakes, RecoverTakes, RestartTakes, Takes, Explained, goes_on, empty}
 use Rattle.life.specs.Step.{Buffered, put_back, Did}
 use Rattle.life.proofs.Answering.{sound-unbroken, clean-unbroken, after-refused, cases-option, early-answer, shows, shows-early, blank}
 

@@ -1,5 +1,5 @@
 -- What a store is asked.
-use Rattle.std.specs.Prelude.{ℕ, List}
+use Rattle.std.specs.Prelude.{ℕ}
 use Rattle.layout.specs.Table.{create, read, shorten, rename, remove}
 use Rattle.life.specs.declared.call.Ask.TheVariants.{Create, Read, Shorten, Rename, Remove}
 use Rattle.life.specs.declared.call.Call.{Call}

@@ -1,5 +1,5 @@
 -- A life: what a store was asked once format was done, what it answered, and what the memory then was.
-use Rattle.std.specs.Prelude.{◌≡◌, ℕ, ◌/◌, Bool, true, false, cond, ◌||◌, ◌⊎◌, List, [], ◌∷◌, map, reverse, replicate, ◌==◌}
+use Rattle.std.specs.Prelude.{◌≡◌, ℕ, ◌/◌, Bool, true, false, ◌||◌, ◌⊎◌, List, [], ◌∷◌, map, reverse, replicate, ◌==◌}
 use Rattle.memory.specs.Model.{Model}
 use Rattle.layout.specs.Image.{Rule5}
 use Rattle.layout.specs.Log.{HoldsFiles}

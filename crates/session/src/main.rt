@@ -1,3 +1,5 @@
+#![tactic(auto)]
+
 use console::line::LINE;
 use console::state::State;
 use console::turn::take_turn;

@@ -1,19 +1,18 @@
 -- A file of the table as a read finds it, and its bytes as they are loaded. Assumes nothing.
-use Rattle.std.proofs.Common.{◌≡◌, ℕ, ◌+◌, ◌-◌, ◌*◌, ◌/◌, ◌%◌, ◌^◌, ◌<◌, ◌≤◌, min, Bool, true, false, cond, not, ◌&&◌, eqb, List, [], ◌∷◌, ◌++◌, length, get_or, take, drop, replicate, IsErrAnd, Some, None, Ok, Err, Result, sym, refl, ap, ◌∙◌, subst, inl, inr, ⊎_elim, arith}
+use Rattle.std.proofs.Common.{◌≡◌, ℕ, ◌+◌, ◌-◌, ◌*◌, ◌/◌, ◌%◌, ◌^◌, ◌<◌, ◌≤◌, min, Bool, true, false, cond, eqb, List, [], ◌∷◌, ◌++◌, length, get_or, take, drop, replicate, IsErrAnd, Some, None, Ok, Err, Result, sym, refl, ap, ◌∙◌, subst, inl, inr, ⊎_elim, arith}
 use borrow.Rule.Slice.PartMut.{put_mid}
 use lib.Bits.{bit_and}
 use Rattle.std.proofs.lemmas.Nat.{and_mask}
 use Rattle.std.proofs.lemmas.List.FromFn.{get_or-map-range_with_len, fill_by_all}
 use Rattle.std.proofs.lemmas.List.{append-nil, length-take, length-drop, length-take-le, get_or-take, get_or-drop, drop_at, drop_all}
 use Rattle.std.proofs.lemmas.Slice.{take-put_mid_below}
-use Rattle.std.proofs.lemmas.Bool.{false≢true, eqb-true, eqb-false, and_parts, not-true, or_cases, cases_Bool, cond-true}
+use Rattle.std.proofs.lemmas.Bool.{cases_Bool, cond-true}
 use Rattle.std.proofs.lemmas.Bool.Decides.{nat_tests}
 use Rattle.memory.specs.Bytes.{byte_of, bytes_of}
 use Rattle.memory.specs.Model.{Model}
 use Rattle.memory.specs.Stores.{Words}
-use Rattle.layout.specs.Image.{Same, in_block, named, name_of, root_word, map_of, length_of, file_blocks, slot_blocks, file_byte, file_bytes, files_of, table_of, DataBlock, GoodRoot}
-use Rattle.layout.specs.Lists.{member}
-use Rattle.layout.specs.Log.{Sound, Clean, FirstBusy, HoldsFiles}
+use Rattle.layout.specs.Image.{Same, in_block, named, name_of, root_word, map_of, length_of, file_byte, file_bytes, files_of, table_of, GoodRoot}
+use Rattle.layout.specs.Log.{Clean, FirstBusy, HoldsFiles}
 use Rattle.layout.specs.Names.{well_formed}
 use Rattle.layout.specs.Table.{Table, Ask, read, done, refuse, find, answer, after, buffer, early}
 use Rattle.layout.specs.Touch.{blocks_for}

@@ -1,14 +1,12 @@
 -- What a file call comes to, once the image is checked and its stores are made. Assumes nothing.
-use Rattle.std.proofs.Common.{◌≡◌, ℕ, ◌+◌, ◌*◌, ◌/◌, ◌<◌, ◌≤◌, Bool, true, false, eqb, ◌⊎◌, List, [], ◌∷◌, ◌++◌, IsErrAnd, Some, None, Ok, Err, Option, Result, sym, refl, ap, ◌∙◌, subst, inl, inr, ⊎_elim, arith}
-use Rattle.std.proofs.lemmas.Bool.{true≢false, cases_Bool, cases_eq}
-use Rattle.memory.specs.Model.{Model, In, Settled}
-use Rattle.memory.specs.Stores.{Words, word, one, put, values_at}
-use Rattle.memory.specs.declared.word.Word.{Word}
-use Rattle.memory.proofs.Putting.{up-down, in_either, one-here, one-other, values-either}
-use Rattle.layout.specs.Image.{Same, table_of}
-use Rattle.layout.specs.Log.{Clean, FirstBusy, HoldsFiles, LeadsToFiles}
-use Rattle.layout.specs.Table.{Table, Ask, Reply, refuse, early, answer, after}
-use Rattle.images.proofs.Holding.{holds-own, clean-leads}
+use Rattle.std.proofs.Common.{◌≡◌, ℕ, ◌*◌, ◌/◌, ◌<◌, ◌≤◌, Bool, true, false, List, [], IsErrAnd, Some, None, Ok, Err, Option, Result, sym, refl, ap, ◌∙◌, subst, inl, inr, ⊎_elim, arith}
+use Rattle.std.proofs.lemmas.Bool.{true≢false, cases_Bool}
+use Rattle.memory.specs.Model.{Model}
+use Rattle.memory.proofs.Putting.{up-down}
+use Rattle.layout.specs.Image.{table_of}
+use Rattle.layout.specs.Log.{Clean, FirstBusy}
+use Rattle.layout.specs.Table.{Ask, Reply, early, answer}
+use Rattle.images.proofs.Holding.{clean-leads}
 use Rattle.image_check.specs.Answers.{RefusedBy}
 use Rattle.image_check.specs.Directory.{Lists}
 use Rattle.image_check.specs.Reading.{Looked, LookedDown}
@@ -17,10 +15,9 @@ use Rattle.image_check.specs.declared.image.Survey.{Survey}
 use Rattle.image_check.specs.declared.refusal.Refusal.{Refusal}
 use Rattle.image_check.specs.declared.refusal.Refusal.TheVariants.{PowerLost, BadImage, BadName, NoFile, NameTaken, TooManyFiles, TooLong, WrongSize}
 use Rattle.image_check.proofs.Sizing.{size-blocks}
-use Rattle.store.specs.Calls.{broken, refused_reply, reply, CallCut, Changed, Answered, Took, FileCall, SlotCall, Opened, Opens}
-use Rattle.store.specs.Phase.{Drawn, AllMade, CutIn}
+use Rattle.store.specs.Calls.{refused_reply, reply, CallCut, Took, FileCall, SlotCall, Opens}
 use Rattle.store.proofs.Phases.{cut-looked}
-use Rattle.store.proofs.Recovery.{torn, torn-none, looked-settled}
+use Rattle.store.proofs.Recovery.{torn, torn-none}
 
 none-some : {X : Type 0} (o : Option X) (x : X) → o ≡ None → o ≡ Some x → ⊥
 none-some {X} o x n s = true≢false (ap has (sym s ∙ n))

@@ -1,19 +1,19 @@
 -- What the look_up of a name says of the files, and the changes of a slot that the calls make. Assumes nothing.
-use Rattle.std.proofs.Common.{◌≡◌, ℕ, ◌+◌, ◌*◌, ◌<◌, ◌≤◌, Bool, true, false, cond, not, ◌&&◌, eqb, leb, ◌⊎◌, List, [], ◌∷◌, ◌++◌, length, get_or, take, Some, None, Option, sym, refl, ap, ◌∙◌, subst, inl, inr, arith}
+use Rattle.std.proofs.Common.{◌≡◌, ℕ, ◌+◌, ◌*◌, ◌<◌, ◌≤◌, Bool, true, false, cond, not, eqb, leb, ◌⊎◌, List, [], ◌∷◌, ◌++◌, length, get_or, take, Some, None, Option, sym, refl, ap, ◌∙◌, subst, inl, inr, arith}
 use Rattle.std.proofs.lemmas.Bool.{le-leb, lt-leb, eq-eqb, ne_eqb}
 use Rattle.memory.specs.Bytes.{bytes_of}
-use Rattle.memory.specs.Stores.{Words, word, one, put}
+use Rattle.memory.specs.Stores.{Words, word, one}
 use Rattle.memory.proofs.Putting.{one-here, one-other}
-use Rattle.layout.specs.Image.{named, name_word, name_of, root_word, length_of, file_bytes, files_of, table_of, short_root}
+use Rattle.layout.specs.Image.{named, name_word, name_of, root_word, length_of, file_bytes, files_of, short_root}
 use Rattle.layout.specs.Lists.{Rearranged}
 use Rattle.layout.specs.Log.{Clean}
 use Rattle.layout.specs.Names.{well_formed}
-use Rattle.layout.specs.Table.{Table, Reply, refuse, create, rename, remove, shorten, find, replace, with_bytes, with_name, answer, done, early}
+use Rattle.layout.specs.Table.{Table, Reply, refuse, create, rename, remove, shorten, find, replace, with_bytes, with_name, answer}
 use Rattle.images.proofs.Directory.{formed-named}
 use Rattle.images.proofs.Naming.{New, removing, renaming, clearing, creating}
 use Rattle.images.proofs.Rearranging.{rearranged-refl}
 use Rattle.images.proofs.Shortening.{shortening}
-use Rattle.images.proofs.Slots.{find-slot, find_none, slots-full, slots-room, bytes-length}
+use Rattle.images.proofs.Slots.{find-slot, find_none, slots-room, bytes-length}
 use Rattle.image_check.specs.Directory.{Lists}
 use Rattle.image_check.specs.declared.reading.Directory.{Directory}
 use Rattle.store.proofs.Phasing.{SlotChange}

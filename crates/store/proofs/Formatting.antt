@@ -1,12 +1,12 @@
 -- What the phases of format come to. Assumes nothing.
-use Rattle.std.proofs.Common.{◌≡◌, ℕ, zero, suc, ◌+◌, ◌/◌, ◌%◌, ◌<◌, ◌≤◌, Bool, true, false, cond, ◌&&◌, ◌||◌, eqb, ltb, leb, ◌⊎◌, List, [], ◌∷◌, ◌++◌, Some, None, Ok, Err, Option, Result, sym, refl, ap, ◌∙◌, subst, inl, inr, ⊎_elim, add-suc, arith}
+use Rattle.std.proofs.Common.{◌≡◌, ℕ, zero, suc, ◌+◌, ◌/◌, ◌<◌, ◌≤◌, Bool, true, false, cond, ◌&&◌, ◌||◌, eqb, ltb, leb, ◌⊎◌, List, [], ◌∷◌, ◌++◌, Ok, Err, Result, sym, refl, ap, ◌∙◌, subst, inl, inr, ⊎_elim, arith}
 use Rattle.std.proofs.lemmas.Bool.Decides.{nat_tests}
 use Rattle.memory.specs.Model.{Model, In, Settled}
-use Rattle.memory.specs.Stores.{Words, word, one, put, values_at, Made}
+use Rattle.memory.specs.Stores.{Words, word, one, put, values_at}
 use Rattle.memory.specs.declared.word.Word.{Word}
 use Rattle.memory.proofs.Putting.{up-down, in_left, in_right, in_either, put-append, values_at-append, values-either}
 use Rattle.image_check.specs.declared.refusal.Refusal.{Refusal}
-use Rattle.image_check.specs.declared.refusal.Refusal.TheVariants.{PowerLost, WrongSize}
+use Rattle.image_check.specs.declared.refusal.Refusal.TheVariants.{PowerLost}
 use Rattle.image_check.specs.Size.{suits}
 use Rattle.store.specs.Phase.{zeros, Drawn, AllMade, CutIn, Persisted}
 use Rattle.store.specs.Format.{cleared, clearing, stores, formatted, Untouched, Cleared, Formatted, FormatCut, Formats}

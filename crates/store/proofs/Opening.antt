@@ -1,15 +1,14 @@
 -- What a file call knows once the image is checked. Assumes nothing.
-use Rattle.std.proofs.Common.{◌≡◌, ℕ, ◌*◌, ◌/◌, ◌<◌, ◌≤◌, Bool, true, false, IsErrAnd, Ok, Err, Result, sym, refl, ap, ◌∙◌, subst, inl, inr, arith}
+use Rattle.std.proofs.Common.{◌≡◌, ℕ, ◌/◌, true, IsErrAnd, Ok, Err, Result, sym, refl, ◌∙◌, subst, inl, inr, arith}
 use Rattle.memory.specs.Model.{Model}
 use Rattle.memory.proofs.Putting.{up-down}
-use Rattle.layout.specs.Log.{FirstBroken, state}
-use Rattle.image_check.specs.Answers.{RefusedBy}
-use Rattle.image_check.specs.Check.{Surveyed, Surveys}
+use Rattle.layout.specs.Log.{state}
+use Rattle.image_check.specs.Check.{Surveys}
 use Rattle.image_check.specs.Reading.{Looked, LookedDown}
 use Rattle.image_check.specs.Size.{suits}
 use Rattle.image_check.specs.declared.image.Survey.{Survey}
 use Rattle.image_check.specs.declared.refusal.Refusal.{Refusal}
-use Rattle.image_check.specs.declared.refusal.Refusal.TheVariants.{PowerLost, BadImage, WrongSize}
+use Rattle.image_check.specs.declared.refusal.Refusal.TheVariants.{PowerLost, BadImage}
 use Rattle.image_check.proofs.Looking.{looked-more, looked-down, refused-map}
 use Rattle.image_check.proofs.Sizing.{size-enough}
 use Rattle.store.specs.Calls.{Opened, Opens}

@@ -1,13 +1,13 @@
 -- The last phase of a call that changes one slot: one word of the directory is stored and settled. Assumes nothing.
-use Rattle.std.proofs.Common.{◌≡◌, ℕ, ◌+◌, ◌*◌, ◌/◌, ◌<◌, ◌≤◌, Bool, true, false, cond, not, ◌&&◌, eqb, ◌⊎◌, List, [], ◌∷◌, ◌++◌, None, Ok, Err, Result, sym, refl, ap, ◌∙◌, subst, inl, inr, ⊎_elim, arith}
+use Rattle.std.proofs.Common.{◌≡◌, ℕ, ◌+◌, ◌*◌, ◌/◌, ◌<◌, ◌≤◌, true, cond, eqb, ◌⊎◌, List, [], ◌∷◌, None, Ok, Err, Result, sym, refl, ap, ◌∙◌, subst, inl, inr, ⊎_elim, arith}
 use Rattle.std.proofs.lemmas.Bool.{cases_eq}
 use Rattle.memory.specs.Model.{Model, Settled}
 use Rattle.memory.specs.Stores.{Words, word, one, put, values_at}
 use Rattle.memory.specs.declared.word.Word.{Word}
 use Rattle.memory.proofs.Putting.{up-down, in_either, one-here, one-other, put-append, values-either}
-use Rattle.layout.specs.Image.{Same, in_block, named, name_of, root_word, map_of, file_blocks, slot_blocks, files_of, table_of, DataBlock, GoodRoot}
-use Rattle.layout.specs.Lists.{member, Rearranged}
-use Rattle.layout.specs.Log.{Sound, Clean, HoldsFiles, LeadsToFiles}
+use Rattle.layout.specs.Image.{Same, files_of, table_of}
+use Rattle.layout.specs.Lists.{Rearranged}
+use Rattle.layout.specs.Log.{Clean, HoldsFiles, LeadsToFiles}
 use Rattle.layout.specs.Table.{Table, Ask, Reply, done, early, answer, change, after}
 use Rattle.images.proofs.Frame.{same-sound, same-holds_files}
 use Rattle.images.proofs.Holding.{holds-files, holds_after, clean-leads}
@@ -17,8 +17,8 @@ use Rattle.image_check.specs.Size.{suits}
 use Rattle.image_check.specs.declared.refusal.Refusal.{Refusal}
 use Rattle.image_check.specs.declared.refusal.Refusal.TheVariants.{PowerLost}
 use Rattle.image_check.proofs.Sizing.{size-blocks}
-use Rattle.store.specs.Calls.{refused_reply, reply, CallCut, Changed, Answered, Took, FileCall, SlotCall}
-use Rattle.store.specs.Phase.{Drawn, AllMade, CutIn, Persisted}
+use Rattle.store.specs.Calls.{refused_reply, reply, CallCut, Changed, SlotCall}
+use Rattle.store.specs.Phase.{AllMade, CutIn, Persisted}
 use Rattle.image_check.specs.Reading.{Looked}
 use Rattle.store.proofs.Phases.{looked-made, done_more}
 use Rattle.store.proofs.Recovery.{looked-settled, torn-later}

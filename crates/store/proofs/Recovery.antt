@@ -1,21 +1,19 @@
 -- What the phases of recovery come to. Assumes nothing.
-use Rattle.std.proofs.Common.{◌≡◌, ℕ, ◌+◌, ◌*◌, ◌/◌, ◌<◌, ◌≤◌, Bool, true, false, cond, not, ◌&&◌, ◌||◌, eqb, ◌⊎◌, List, [], ◌∷◌, ◌++◌, map, IsErrAnd, Ok, Err, Result, sym, refl, ap, ◌∙◌, subst, inl, inr, ⊎_elim, arith}
+use Rattle.std.proofs.Common.{◌≡◌, ℕ, ◌+◌, ◌*◌, ◌<◌, ◌≤◌, Bool, true, false, cond, not, ◌&&◌, ◌||◌, eqb, ◌⊎◌, List, [], ◌∷◌, ◌++◌, map, Ok, sym, refl, ap, ◌∙◌, subst, inl, inr, ⊎_elim, arith}
 use Rattle.std.proofs.lemmas.Bool.{cases_Bool, ne_eqb}
 use Rattle.std.proofs.lemmas.Bool.Decides.{nat_tests}
 use Rattle.std.specs.List.{range_with_len}
 use Rattle.memory.specs.Model.{Model, In, Settled}
-use Rattle.memory.specs.Stores.{Words, word, one, put, values_at}
+use Rattle.memory.specs.Stores.{Words, word, put, values_at}
 use Rattle.memory.specs.declared.word.Word.{Word}
-use Rattle.memory.proofs.Putting.{up-down, in_either, in_left, in_right, put_same}
+use Rattle.memory.proofs.Putting.{up-down, in_either, in_left, in_right}
 use Rattle.layout.specs.Image.{Same, root_word, named, Rule4}
-use Rattle.layout.specs.Log.{state, log_slot, follows, old_root, no_piece, piece_of, GoodPiece, putting_back, undoing, undone, puts_back, recovering, recovered, Sound, Clean, HoldsFiles, LeadsToFiles}
+use Rattle.layout.specs.Log.{state, log_slot, no_piece, piece_of, GoodPiece, putting_back, undoing, undone, puts_back, recovered, Sound, LeadsToFiles}
 use Rattle.layout.specs.Table.{Table}
 use Rattle.images.proofs.Frame.{same-sound, same-holds_files}
 use Rattle.images.proofs.Pieces.{file-data, putting_back-same, undoing-same}
-use Rattle.images.proofs.Recovering.{Torn, undone-same, undone-busy, recovered-idle, recovered-clean, recovered-same, leads_to_files-same, leads_to_files-undoing, leads_to_files-undone, leads_to_files-freeing}
+use Rattle.images.proofs.Recovering.{Torn, undone-same, recovered-idle, recovered-clean, recovered-same, leads_to_files-same, leads_to_files-undoing, leads_to_files-undone, leads_to_files-freeing}
 use Rattle.image_check.specs.Reading.{Looked, LookedDown}
-use Rattle.image_check.specs.declared.refusal.Refusal.{Refusal}
-use Rattle.image_check.specs.declared.refusal.Refusal.TheVariants.{PowerLost, BadImage, WrongSize}
 use Rattle.store.specs.Phase.{Drawn, AllMade, CutIn}
 use Rattle.store.specs.LogEntry.{Tells}
 use Rattle.store.specs.Recover.{RecoverDone, RecoverCut, Puttable, taken_back, TakenBack}

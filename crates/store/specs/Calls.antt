@@ -6,8 +6,7 @@ use Rattle.layout.specs.Image.{in_block, named, name_of, slot_blocks, table_of}
 use Rattle.layout.specs.Lists.{member}
 use Rattle.layout.specs.Log.{Clean, FirstBusy, HoldsFiles, LeadsToFiles}
 use Rattle.layout.specs.Table.{Table, Ask, Reply, done, refuse, early, on, answer, after}
-use Rattle.image_check.specs.Answers.{RefusedBy, number}
-use Rattle.image_check.specs.Check.{HasAll}
+use Rattle.image_check.specs.Answers.{RefusedBy}
 use Rattle.image_check.specs.Directory.{Lists}
 use Rattle.image_check.specs.Reading.{Looked, LookedDown}
 use Rattle.image_check.specs.Size.{suits}

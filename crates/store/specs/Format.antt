@@ -1,5 +1,5 @@
 -- What format does to a memory. N is the count of blocks, of 32 words each.
-use Rattle.std.specs.Prelude.{◌≡◌, ℕ, ◌/◌, ◌%◌, ◌<◌, Bool, true, false, cond, ◌&&◌, ◌||◌, ◌⊎◌, List, [], ◌∷◌, ◌++◌, Ok, Err, Result, ◌==◌, ◌≢◌, nat_le, nat_lt}
+use Rattle.std.specs.Prelude.{◌≡◌, ℕ, ◌/◌, ◌<◌, Bool, true, false, cond, ◌&&◌, ◌||◌, ◌⊎◌, List, [], ◌∷◌, ◌++◌, Ok, Err, Result, ◌==◌, ◌≢◌, nat_le, nat_lt}
 use Rattle.memory.specs.Model.{Model, In, Settled}
 use Rattle.memory.specs.Stores.{Words, word}
 use Rattle.memory.specs.declared.word.Word.{Word}

@@ -1,4 +1,6 @@
 // A file store in a memory that holds without power: the calls, over any memory.
+#![tactic(auto)]
+
 pub mod format;
 mod log_entry;
 pub mod names;

@@ -1,3 +1,5 @@
+#![tactic(auto)]
+
 // Tests of the calls on the bottom memories.
 #[cfg(test)]
 mod format_tests;

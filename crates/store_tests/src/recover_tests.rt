@@ -126,7 +126,12 @@ fn check_words<M: Memory>(rt: &impl Abort, memory: &mut M, case: Case) -> Result
     }
     expected.store(8, 0)?;
     for at in 0..192 {
-        assert_eq!(rt; memory.load(at), expected.load(at), "{}, word {at}", case.name);
+        assert_eq!(rt;
+            memory.load(at),
+            expected.load(at),
+            "{}, word {at}",
+            case.name
+        );
     }
     Ok(())
 }
@@ -315,7 +320,11 @@ fn refuses(rt: &impl Abort, at: u64, value: u64, rule: u8) -> Result<(), Fail> {
     assert!(rt; memory.restart());
     memory.store(at, value)?;
     let before = bytes;
-    assert_eq!(rt; answer(rt, &mut bytes), Err(Refusal::BadImage(rule)), "word {at}");
+    assert_eq!(rt;
+        answer(rt, &mut bytes),
+        Err(Refusal::BadImage(rule)),
+        "word {at}"
+    );
     assert_eq!(rt; bytes, before, "word {at}, rule {rule}");
     Ok(())
 }

@@ -1,4 +1,4 @@
-use Rattle.std.proofs.Common.{◌/◌, ◌^◌, ◌<◌, ◌≤◌, length, decimal, ap, arith}
+use Rattle.std.proofs.Common.{◌/◌, length, decimal, ap, arith}
 use Rattle.console.proofs.Writing.{length-digit, length-step, length-written, digit-written, digits-written}
 use Rattle.console.proofs.line.+put_decimal.Goals as goal
 

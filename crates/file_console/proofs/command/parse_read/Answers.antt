@@ -1,4 +1,4 @@
-use Rattle.std.proofs.Common.{◌≡◌, ◌<◌, length, sym, ap, ◌∙◌, rules}
+use Rattle.std.proofs.Common.{◌<◌, length, rules}
 use Rattle.file_console.proofs.Parsing.{read-parts}
 use Rattle.file_console.proofs.command.parse_read.Goals as goal
 

@@ -1,4 +1,4 @@
-use Rattle.std.proofs.Common.{◌≡◌, ◌*◌, ◌≤◌, sym, refl, ◌∙◌, subst, arith}
+use Rattle.std.proofs.Common.{◌*◌, ◌≤◌, sym, ◌∙◌, subst, arith}
 use Rattle.std.proofs.lemmas.Option.{MatchOption-at_some, MatchOption-at_none}
 use Rattle.image_check.proofs.Checking.{four-from, mapped-from, rooted-from, before-one, before_more, broken, refuted, checked-exit, same-later, lists-later, mapped-later, five-before, has-before, five-broken, six-broken, sound-before}
 use Rattle.image_check.proofs.Looking.{looked-more, looked-down}

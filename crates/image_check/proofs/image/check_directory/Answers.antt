@@ -1,4 +1,4 @@
-use Rattle.std.proofs.Common.{◌≡◌, ◌*◌, ◌≤◌, sym, ◌∙◌, arith, rules}
+use Rattle.std.proofs.Common.{sym, ◌∙◌, arith, rules}
 use Rattle.layout.specs.Image.{Rule1}
 use Rattle.image_check.proofs.Checking.{two_from, three-from, formed-from, differ-from, rooted-from, before-one, before_more, broken, refuted, listed-exit, lists-before}
 use Rattle.image_check.proofs.Looking.{looked-more, looked-down}

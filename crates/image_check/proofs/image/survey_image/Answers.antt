@@ -1,4 +1,4 @@
-use Rattle.std.proofs.Common.{◌≡◌, ◌*◌, ◌/◌, ◌≤◌, true, false, Ok, Err, sym, ◌∙◌, subst, arith}
+use Rattle.std.proofs.Common.{◌*◌, ◌≤◌, Ok, Err, sym, ◌∙◌, subst, arith}
 use Rattle.memory.proofs.Putting.{up-down}
 use Rattle.layout.specs.Log.{Sound}
 use Rattle.image_check.specs.Check.{Surveyed}

@@ -1,4 +1,4 @@
-use Rattle.std.proofs.Common.{◌≡◌, ℕ, ◌+◌, ◌*◌, ◌<◌, length, sym, ap, ◌∙◌, subst, arith, length-set}
+use Rattle.std.proofs.Common.{◌≡◌, ◌+◌, ◌*◌, ◌<◌, ap, ◌∙◌, arith, length-set}
 use Rattle.layout.specs.Image.{name_word, root_word}
 use Rattle.image_check.specs.Directory.{Lists}
 use Rattle.image_check.proofs.Looking.{looked-more, looked-down, reads_exit, filled}

@@ -1,7 +1,7 @@
 use Rattle.std.proofs.Common.{◌∙◌, rules}
 use Rattle.store.specs.Phase.{zeros}
 use Rattle.store.specs.Format.{clearing}
-use Rattle.store.proofs.Phases.{persisted-exit, cut_short, cut-more, done_more, so_far, ends}
+use Rattle.store.proofs.Phases.{persisted-exit, cut_short, cut-more, so_far}
 use Rattle.store.proofs.Formatting.{clear-done}
 use Rattle.store.proofs.format.clear.Goals as goal
 

@@ -1,4 +1,4 @@
-use Rattle.std.proofs.Common.{◌≡◌, ℕ, ◌+◌, ◌<◌, ◌∙◌, arith, length-set}
+use Rattle.std.proofs.Common.{◌+◌, ◌<◌, ◌∙◌, arith, length-set}
 use Rattle.image_check.proofs.Looking.{looked-more, looked-down, reads_exit, filled}
 use Rattle.store.specs.LogEntry.{EntryWords}
 use Rattle.store.proofs.log_entry.load_entry_words.Goals as goal

@@ -1,4 +1,4 @@
-use Rattle.std.proofs.Common.{◌≡◌, ◌+◌, ◌*◌, ◌/◌, ◌<◌, [], sym, refl, ap, ◌∙◌, subst, arith}
+use Rattle.std.proofs.Common.{◌+◌, ◌*◌, ◌/◌, [], sym, ◌∙◌, arith}
 use Rattle.layout.specs.Image.{table_of}
 use Rattle.layout.specs.Names.{well_formed}
 use Rattle.layout.specs.Table.{remove}

@@ -1,13 +1,12 @@
-use Rattle.std.proofs.Common.{◌≡◌, ◌+◌, ◌*◌, ◌/◌, ◌<◌, ◌&&◌, [], ◌∷◌, None, sym, refl, ap, ◌∙◌, subst, arith}
+use Rattle.std.proofs.Common.{◌≡◌, ◌+◌, ◌*◌, ◌/◌, ◌&&◌, [], None, sym, ap, ◌∙◌, subst, arith}
 use Rattle.std.proofs.lemmas.Bool.{and_from}
 use Rattle.memory.specs.Bytes.{bytes_of}
-use Rattle.memory.specs.Stores.{word}
 use Rattle.layout.specs.Image.{table_of}
 use Rattle.layout.specs.Names.{well_formed}
 use Rattle.layout.specs.Table.{rename, early}
-use Rattle.image_check.specs.declared.refusal.Refusal.TheVariants.{NoFile, NameTaken, TooManyFiles}
+use Rattle.image_check.specs.declared.refusal.Refusal.TheVariants.{NoFile, NameTaken}
 use Rattle.store.specs.Calls.{SlotCall, reply}
-use Rattle.store.proofs.Calling.{known, slot-exit, slot-cut, slot-refused, answered-refused, place_inside}
+use Rattle.store.proofs.Calling.{known, slot-exit, slot-refused, answered-refused, place_inside}
 use Rattle.store.proofs.Finding.{missing-none, missing-new, found_name, found-named, look_up, rename-change, early-formed, rename-missing, rename-taken}
 use Rattle.store.proofs.Phases.{looked-made}
 use Rattle.store.proofs.Phasing.{last-phase}

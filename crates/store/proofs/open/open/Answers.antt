@@ -1,4 +1,4 @@
-use Rattle.std.proofs.Common.{◌≡◌, ◌∙◌}
+use Rattle.std.proofs.Common.{◌∙◌}
 use Rattle.store.proofs.Opening.{opens-refused, opens-cut, opens-busy, opens-done}
 use Rattle.store.proofs.open.open.Goals as goal
 

@@ -1,6 +1,5 @@
-use Rattle.std.proofs.Common.{◌≡◌, ◌-◌, ◌<◌, sym, refl, ap, ◌∙◌, subst, arith}
+use Rattle.std.proofs.Common.{◌≡◌, refl, ◌∙◌, arith}
 use Rattle.memory.proofs.Making.{made_none}
-use Rattle.store.specs.Phase.{zeros, AllMade}
 use Rattle.store.proofs.Phases.{storing-exit, zeros-cut, zeros-more, zeros-none, done_more, so_far}
 use Rattle.store.proofs.phase.clear_run.Goals as goal
 

@@ -1,4 +1,4 @@
-use Rattle.std.proofs.Common.{◌<◌, sym, refl, ◌∙◌, subst}
+use Rattle.std.proofs.Common.{sym, refl, ◌∙◌, subst}
 use Rattle.memory.specs.Stores.{word}
 use Rattle.std.proofs.lemmas.List.{take_more, take_all}
 use Rattle.store.specs.Phase.{Within}

@@ -1,6 +1,5 @@
-use Rattle.std.proofs.Common.{◌≡◌, ◌+◌, ◌*◌, ℕ, Bool, true, false, cond, List, [], ◌∷◌, ap, ◌∙◌, sym, subst, map}
-use Rattle.std.specs.List.{range_with_len}
-use Rattle.memory.specs.Stores.{Words, word}
+use Rattle.std.proofs.Common.{◌≡◌, ◌+◌, ◌*◌, ℕ, Bool, false, cond, List, [], ap, ◌∙◌, sym, subst}
+use Rattle.memory.specs.Stores.{Words}
 use Rattle.memory.specs.declared.word.Word.{Word}
 use Rattle.layout.specs.Log.{no_piece, piece_of, putting_back}
 use Rattle.store.specs.Phase.{Storing, copies}

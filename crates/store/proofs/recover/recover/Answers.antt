@@ -1,9 +1,8 @@
-use Rattle.std.proofs.Common.{◌≡◌, ℕ, ◌+◌, ◌*◌, ◌/◌, ◌<◌, ◌≤◌, true, false, get_or, Ok, Err, sym, refl, ap, ◌∙◌, subst, arith}
-use Rattle.layout.specs.Log.{state, log_slot}
+use Rattle.std.proofs.Common.{◌/◌, ◌≤◌, false, get_or, Ok, sym, refl, ◌∙◌, subst}
 use Rattle.images.proofs.Working.{cases-right}
-use Rattle.image_check.proofs.Looking.{looked-more, looked-down}
+use Rattle.image_check.proofs.Looking.{looked-down}
 use Rattle.image_check.proofs.Sizing.{size-blocks, size-enough}
-use Rattle.store.proofs.Recovery.{good-puttable, looking-cut, idle-done, taking-cut, freeing-cut, freed-done, taken-done, taken-cut}
+use Rattle.store.proofs.Recovery.{looking-cut, idle-done, taking-cut, freeing-cut, freed-done, taken-done, taken-cut}
 use Rattle.store.proofs.Refusing.{sound-size, begun, recovers-taken, refuses-exit, cut-exit, busy, tells-later, root-later, start-later, end_later}
 use Rattle.store.proofs.recover.recover.Goals as goal
 

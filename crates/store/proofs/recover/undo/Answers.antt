@@ -1,4 +1,4 @@
-use Rattle.std.proofs.Common.{◌≡◌, ◌++◌, ◌∙◌, subst, arith, rules}
+use Rattle.std.proofs.Common.{◌∙◌, subst, arith, rules}
 use Rattle.layout.specs.Log.{putting_back}
 use Rattle.store.specs.Phase.{AllMade, CutIn}
 use Rattle.store.proofs.Phases.{persisted-exit, cut_short, cut-more, done_more, so_far, ending}

@@ -1,10 +1,9 @@
-use Rattle.std.proofs.Common.{◌≡◌, ◌+◌, ◌*◌, ◌/◌, ◌%◌, ◌^◌, ◌<◌, ◌≤◌, cond, eqb, [], ◌∷◌, length, get_or, sym, refl, ap, ◌∙◌, subst, arith}
+use Rattle.std.proofs.Common.{◌≡◌, ◌+◌, ◌*◌, ◌/◌, ◌%◌, ◌^◌, ◌<◌, ◌≤◌, cond, eqb, [], ◌∷◌, sym, ap, ◌∙◌, subst, arith}
 use Rattle.layout.specs.Image.{length_of, root_word, file_bytes, short_root, table_of}
 use Rattle.layout.specs.Names.{well_formed}
 use Rattle.layout.specs.Table.{shorten}
 use Rattle.images.proofs.Slots.{bytes-length}
 use Rattle.image_check.specs.declared.refusal.Refusal.TheVariants.{NoFile, TooLong}
-use Rattle.store.specs.Calls.{SlotCall, reply}
 use Rattle.store.specs.Phase.{Persisted}
 use Rattle.memory.specs.Stores.{word}
 use Rattle.store.proofs.Calling.{known, slot-exit, slot-refused, answered-refused, place_inside}

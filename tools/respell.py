@@ -16,12 +16,12 @@ OTHER = {
     "is_Block": "is_block",
 }
 # `putBack` is a list of stores in the image, and a number of a recovery's answer in a life and in a session
-APART = {"putBack": (("crates/life/", "crates/console/"), "put_back", "putting_back")}
+APART = {"putBack": (("crates/life/", "crates/console/", "crates/file_console/"), "put_back", "putting_back")}
 # a lemma that would fall together with the definition that it speaks of
 LEMMAS = {"taken_back": "taken_back-undone"}
 
 NAMES = """
-askOf asksTooMuch atBase blocksFor bytesFrom cacheModel calledFor carriedBy carriedPart copiedNumber cutPoints fileBlocks fileByte
+askOf asksTooMuch atBase blocksFor bytesFrom cacheModel calledFor carriedBy carriedPart copiedNumber cutPoint cutPoints fileBlocks fileByte
 fileBytes filesFrom firstBytes hasPower hexDigit holdingOf imageModel inRun isBase isCache isDone isFound isOk isPart isReady isUnread
 laggingModel leavingOf lettersThenZeros littleEndian logSlot mapOf nameIn nameWord newestOf noneLent oldRoot oneLess partModel pileModel
 powerAfter readyAfter refusedReply replyOf rootBlocks rootWord shortRoot shownBy shownPart slotBlocks slotFile slotFiles takenBack

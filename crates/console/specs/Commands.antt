@@ -10,12 +10,12 @@ letter Format = 70
 letter (CutPoint n) = 75
 
 -- the operand of a cut point, two bytes
-abbrev cutPoint : List ℕ → Option (Command × List ℕ)
-cutPoint [] = None
-cutPoint (low ∷ []) = None
-cutPoint (low ∷ high ∷ rest) = Some (CutPoint (low + 256 * high), rest)
+abbrev cut_point : List ℕ → Option (Command × List ℕ)
+cut_point [] = None
+cut_point (low ∷ []) = None
+cut_point (low ∷ high ∷ rest) = Some (CutPoint (low + 256 * high), rest)
 
 -- the first command and what follows it; none if it is unknown or short
 abbrev pub parsed : List ℕ → Option (Command × List ℕ)
 parsed [] = None
-parsed (b ∷ bs) = cond (b == 80) (Some (Restart, bs)) (cond (b == 70) (Some (Format, bs)) (cond (b == 75) (cutPoint bs) None))
+parsed (b ∷ bs) = cond (b == 80) (Some (Restart, bs)) (cond (b == 70) (Some (Format, bs)) (cond (b == 75) (cut_point bs) None))

@@ -116,6 +116,7 @@ fn is_done_before_cut<M: CutPoint>(
     rt: &impl Abort,
     memory: &mut M,
     case: Case,
+    given: u8,
     cut: u64,
 ) -> Result<bool, Fail> {
     store_words(memory, &IMAGE)?;
@@ -127,23 +128,33 @@ fn is_done_before_cut<M: CutPoint>(
     assert_eq!(rt; recover(memory), Ok(false));
     let done = answer == Ok(());
     let before = !done && has_only(memory, &BEFORE)?;
-    assert!(rt; before || has_only(memory, case.after)?, "cut after {cut}");
+    assert!(rt;
+        before || has_only(memory, case.after)?,
+        "given {given}, cut after {cut}"
+    );
     Ok(done)
 }
 
-// Cuts a call off at every operation: with none taken nothing is done, and with enough of them all is.
+// Cuts a call off at every operation, on a memory with the given byte: with none taken nothing is done, and with enough of them all is.
 fn is_whole_after_any_cut<M: CutPoint>(
     rt: &impl Abort,
     memory: &mut M,
     case: Case,
+    given: u8,
 ) -> Result<(), Fail> {
     make_store(rt, memory);
-    assert!(rt; !is_done_before_cut(rt, memory, case, 0)?);
-    assert!(rt; has_only(memory, &BEFORE)?);
+    assert!(rt;
+        !is_done_before_cut(rt, memory, case, given, 0)?,
+        "given {given}"
+    );
+    assert!(rt; has_only(memory, &BEFORE)?, "given {given}");
     for cut in 1..MANY {
-        let _ = is_done_before_cut(rt, memory, case, cut)?;
+        let _ = is_done_before_cut(rt, memory, case, given, cut)?;
     }
-    assert!(rt; is_done_before_cut(rt, memory, case, MANY)?);
+    assert!(rt;
+        is_done_before_cut(rt, memory, case, given, MANY)?,
+        "given {given}"
+    );
     Ok(())
 }
 
@@ -151,7 +162,7 @@ fn is_whole_after_any_cut<M: CutPoint>(
 fn is_whole_where_stores_lag(rt: &impl Abort, heap: Global, case: Case) -> Result<(), Fail> {
     for given in 0..=255u8 {
         let mut memory = Cache::new(LaggingMemory::new(heap, 256, given)?);
-        is_whole_after_any_cut(rt, &mut memory, case)?;
+        is_whole_after_any_cut(rt, &mut memory, case, given)?;
     }
     Ok(())
 }
@@ -186,7 +197,7 @@ fn each_call_is_whole_in_bytes(rt: HostRuntime) -> Result<(), Fail> {
     let mut bytes = [0xa5; 2048];
     let mut memory = ByteImage::new(&mut bytes);
     for case in [CREATE, RENAME, REMOVE, SHORTEN, EMPTY] {
-        is_whole_after_any_cut(&rt, &mut memory, case)?;
+        is_whole_after_any_cut(&rt, &mut memory, case, u8::MAX)?;
     }
     Ok(())
 }

@@ -1,2 +1,2 @@
-pub mod Parsing
+pub mod Running
 pub mod Writing

@@ -1,3 +1,5 @@
 pub mod Commands
+pub mod Denials
 pub mod Lines
 pub mod Session
+pub mod Turns

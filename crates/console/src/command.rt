@@ -31,13 +31,14 @@ pub fn parse(input: &[u8]) -> Option<(Command, &[u8])>
     ensures value { option_map (λ x. (x.0, x.1.now)) result ≡ parsed input.now }
     ensures shorter { IfSome result (λ x. length x.1.now < length input.now) }
 {
-    match input {
-        [b'P', rest @ ..] => Some((Command::Restart, rest)),
-        [b'F', rest @ ..] => Some((Command::Format, rest)),
-        [b'K', low, high, rest @ ..] => Some((
-            Command::CutPoint(u16::from_le_bytes([*low, *high])),
-            rest,
-        )),
+    let (letter, rest) = input.split_first()?;
+    match letter {
+        b'P' => Some((Command::Restart, rest)),
+        b'F' => Some((Command::Format, rest)),
+        b'K' => {
+            let (bytes, rest) = rest.split_first_chunk()?;
+            Some((Command::CutPoint(u16::from_le_bytes(*bytes)), rest))
+        }
         _ => None,
     }
 }

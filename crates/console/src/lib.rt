@@ -2,6 +2,8 @@
 #![tactic(auto)]
 
 pub mod command;
+pub mod denial;
 pub mod line;
+pub mod session;
 pub mod state;
 pub mod turn;

@@ -1,31 +1,20 @@
-ghost use Rattle.std.specs.Prelude.{◌≡◌, ◌+◌, ◌<◌, ◌≤◌, [], ◌∷◌, length, IfSome, if◌then◌else◌, Some, None, decimal, nat_lt};
+ghost use Rattle.std.specs.Prelude.{◌≡◌, ◌+◌, ◌≤◌, length, IfSome, if◌then◌else◌, Some, None, nat_lt};
 ghost use Rattle.console.specs.Lines.{line, written};
+
+use itoa::Buffer;
 
 // the bytes that any line needs at most
 pub const LINE: usize = 72;
 
-// Writes a byte, and answers the place after it.
-fn put(out: &mut [u8], at: usize, byte: u8) -> usize
-    requires { at < length out.old }
-    ensures value { result ≡ at + 1 }
-    ensures after { out.new ≡ written out.old at (byte ∷ []) }
+// Writes a text into a buffer from a place on, and answers the place after it.
+fn put(out: &mut [u8], at: usize, text: &[u8]) -> usize
+    requires { at + length text.now ≤ length out.old }
+    ensures value { result ≡ at + length text.now }
+    ensures after { out.new ≡ written out.old at text.now }
 {
-    out[at] = byte;
-    at + 1
-}
-
-// Writes a number in base ten, and answers the place after it.
-fn put_decimal(out: &mut [u8], at: usize, number: u16) -> usize
-    requires { at + length (decimal number) ≤ length out.old }
-    ensures value { result ≡ at + length (decimal number) }
-    ensures after { out.new ≡ written out.old at (decimal number) }
-{
-    let digit = b'0' + (number % 10) as u8;
-    if number < 10 {
-        return put(out, at, digit);
-    }
-    let next = put_decimal(out, at, number / 10);
-    put(out, next, digit)
+    let end = at + text.len();
+    out[at..end].copy_from_slice(text);
+    end
 }
 
 // Writes a line at the start of a buffer, and answers its length; none, and nothing written, if the buffer is short.
@@ -37,8 +26,8 @@ pub fn write_line(out: &mut [u8], letter: u8, number: u8) -> Option<usize>
     if out.len() < LINE {
         return None;
     }
-    let at = put(out, 0, letter);
-    let at = put(out, at, b' ');
-    let at = put_decimal(out, at, u16::from(number));
-    Some(put(out, at, b'\n'))
+    let mut digits = Buffer::new();
+    let at = put(out, 0, &[letter, b' ']);
+    let at = put(out, at, digits.format(number).as_bytes());
+    Some(put(out, at, b"\n"))
 }

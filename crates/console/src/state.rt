@@ -1,7 +1,11 @@
 ghost use Rattle.std.specs.Prelude.{◌≡◌};
-ghost use Rattle.console.specs.Session.{Restarts, Steps, answered, next};
+ghost use Rattle.console.specs.Commands.{parsed};
+ghost use Rattle.console.specs.Session.{Restarts, Steps, Tells, answered, next};
 
-use crate::command::Command;
+use crate::command::{Command, parse};
+use crate::denial::{Denial, number};
+use crate::line::write_line;
+use crate::session::Session;
 use image_check::refusal::Refusal;
 use memory::cut_point::CutPoint;
 use store::format::format;
@@ -15,12 +19,9 @@ pub enum State {
     Unread,
 }
 
-// the number of a command that the state does not allow
-const NOT_ALLOWED: u8 = 10;
-
 impl State {
-    // Carries out a command on a memory, and answers its number.
-    pub fn step<M: CutPoint>(&mut self, memory: &mut M, command: Command) -> u8
+    // Carries out a command on a memory, and answers it.
+    pub fn step<M: CutPoint>(&mut self, memory: &mut M, command: Command) -> Result<(), Denial>
         ensures steps { Steps M.Memory.model M.CutPoint.cut self.old command memory.old result self.new memory.new }
         ensures lent { M.Memory.lent memory.new ≡ M.Memory.lent memory.old }
     {
@@ -28,30 +29,41 @@ impl State {
             (_, Command::Restart) => {
                 let up = memory.restart();
                 *self = if up { State::Unread } else { State::Off };
-                if up { 0 } else { 1 }
+                if up {
+                    Ok(())
+                } else {
+                    Err(Denial::Refused(Refusal::PowerLost))
+                }
             }
             (State::Unread, Command::Format) => {
                 let answer = format(memory);
                 if let Err(Refusal::PowerLost) = answer {
                     *self = State::Off;
                 }
-                number(answer)
+                Ok(answer?)
             }
             (State::Unread, Command::CutPoint(operations)) => {
                 memory.cut_after(Some(u64::from(operations)));
-                0
+                Ok(())
             }
-            (State::Off, _) => NOT_ALLOWED,
+            (State::Off, _) => Err(Denial::NotAllowed),
         }
     }
 }
 
-// The number of an answer.
-fn number(answer: Result<(), Refusal>) -> u8
-    ensures { result ≡ answered answer }
-{
-    match answer {
-        Ok(()) => 0,
-        Err(refusal) => refusal.number(),
+impl<M: CutPoint> Session<M> for State {
+    type Command = Command;
+
+    ghost first = { parsed };
+
+    ghost tells = { Tells M.Memory.model M.CutPoint.cut };
+
+    fn parse(input: &[u8]) -> Option<(Command, &[u8])> {
+        parse(input)
+    }
+
+    fn answer(&mut self, memory: &mut M, command: Command, out: &mut [u8]) -> Option<usize> {
+        let answer = self.step(memory, command);
+        write_line(out, command.letter(), number(&answer))
     }
 }

@@ -1,4 +1,3 @@
 pub mod Lengths
-pub mod Parsing
 pub mod Showing
 pub mod Writing

@@ -1,7 +1,7 @@
 -- What a read shows. Assumes nothing.
-use Rattle.std.proofs.Common.{◌≡◌, ℕ, ◌-◌, ◌<◌, ◌≤◌, true, ◌⊎◌, List, [], ◌∷◌, ◌++◌, length, get_or, take, Some, None, Option, refl, ap, ◌∙◌, inl, inr, ⊎_elim, arith}
+use Rattle.std.proofs.Common.{◌≡◌, ℕ, ◌-◌, ◌<◌, ◌≤◌, true, ◌⊎◌, List, [], ◌∷◌, ◌++◌, length, get_or, take, Some, None, Option, sym, refl, ap, ◌∙◌, subst, inl, inr, ⊎_elim, arith}
 use native.Mathlib.Nat.{min-le_left}
-use Rattle.std.proofs.lemmas.List.{take-append-le}
+use Rattle.std.proofs.lemmas.List.{take-append-le, length-take-le}
 use Rattle.std.proofs.lemmas.Bool.{cases_Bool}
 use Rattle.memory.specs.Model.{Model}
 use Rattle.layout.specs.Image.{table_of}
@@ -9,8 +9,9 @@ use Rattle.layout.specs.Names.{well_formed}
 use Rattle.layout.specs.Table.{Table, Reply, answer, buffer, done, find, read, refuse}
 use Rattle.image_check.specs.Size.{suits}
 use Rattle.store.specs.Calls.{FileCall, broken}
+use Rattle.console.specs.Lines.{written}
 use Rattle.file_console.specs.Answers.{MayShow}
-use Rattle.file_console.specs.declared.answer.Answer.{Answer}
+use Rattle.file_console.specs.Lines.{Writes, line}
 
 apart : (r q : Reply) → r ≡ q → r.number < q.number → ⊥
 apart r q e lt = omega (arith, ap (λ x. x.number) e)
@@ -54,7 +55,24 @@ pub shown-front : (t : Table) (name : List ℕ) (offset count asked given : ℕ)
     → take given (new ++ rest) ≡ take given (buffer t name offset count)
 shown-front t name offset count asked given new rest same le e = take-append-le given new rest le ∙ ap (take given) (e ∙ ap (buffer t name offset) same)
 
--- what an answer may show fits into the buffer
-pub show-few : (a : Answer) (n : ℕ) → MayShow a n → n ≤ 32
-show-few a n (inl e) = omega arith
-show-few a n (inr h) = h.2
+-- how many bytes an answer shows of a buffer of 32
+pub show-few : (a : ℕ) (o : Option ℕ) (n : ℕ) → MayShow a o n → n ≤ 32
+show-few a o n (inl e) = omega arith
+show-few a o n (inr h) = h.2
+
+pub shown-count : (a : ℕ) (o : Option ℕ) (n : ℕ) (buffer : List ℕ) → length buffer ≡ 32 → MayShow a o n → MayShow a o (length (take n buffer))
+shown-count a o n buffer long may = subst (MayShow a o) (sym (length-take-le n buffer (omega (arith, show-few a o n may)))) may
+
+-- a line that there is room for is written whole
+pub told : (out out' shown : List ℕ) (l letter : ℕ) (a : ℕ) (o : Option ℕ) (r : Option ℕ) → l ≡ letter → 72 ≤ length out → MayShow a o (length shown) → (MayShow a o (length shown) → length (line l a o shown) ≤ 72)
+    → Writes out (line l a o shown) r out' → (r ≡ Some (length (line letter a o shown))) × (out' ≡ written out 0 (line letter a o shown))
+told out out' shown l letter a o r e room may few writes =
+    let w = writes.whole (omega (arith, few may)) in
+    (w.0 ∙ ap (λ x. Some (length (line x a o shown))) e, w.1 ∙ ap (λ x. written out 0 (line x a o shown)) e)
+
+-- the same of a number and a value that are those of an answer
+pub told-as : (out out' shown : List ℕ) (l letter n a : ℕ) (v o : Option ℕ) (r : Option ℕ) → l ≡ letter → n ≡ a → v ≡ o → 72 ≤ length out → MayShow n v (length shown) → (MayShow n v (length shown) → length (line l n v shown) ≤ 72)
+    → Writes out (line l n v shown) r out' → (r ≡ Some (length (line letter a o shown))) × (out' ≡ written out 0 (line letter a o shown))
+told-as out out' shown l letter n a v o r e en ev room may few writes =
+    let w = told out out' shown l letter n v r e room may few writes in
+    (w.0 ∙ ap (λ x. Some (length (line letter x v shown))) en ∙ ap (λ x. Some (length (line letter a x shown))) ev, w.1 ∙ ap (λ x. written out 0 (line letter x v shown)) en ∙ ap (λ x. written out 0 (line letter a x shown)) ev)

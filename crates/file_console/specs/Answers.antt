@@ -1,18 +1,19 @@
 -- What an answer says: a number, 0 for done, and the value that it carries, if any.
 use Rattle.std.specs.Prelude.{◌≡◌, ℕ, ◌≤◌, Bool, cond, ◌⊎◌, Some, None, Ok, Err, Option, Result}
-use Rattle.image_check.specs.Answers.{number}
+use Rattle.image_check.specs.Answers.{rule_number}
 use Rattle.image_check.specs.declared.refusal.Refusal.{Refusal}
 use Rattle.image_check.specs.declared.refusal.Refusal.TheVariants.{PowerLost, BadImage, BadName, NoFile, NameTaken, TooManyFiles, TooLong, WrongSize}
-use Rattle.file_console.specs.declared.answer.Answer.{Answer}
+use Rattle.console.specs.declared.denial.Denial.{Denial}
+use Rattle.console.specs.declared.denial.Denial.TheVariants.{Refused, NotAllowed, BadCommand}
 
--- a number that carries nothing
-abbrev pub plain : ℕ → Answer
-plain n = record { number = n; carried = None }
+-- what a command is answered by
+abbrev pub Said : Type 0
+Said = Result (Option ℕ) Denial
 
 -- a bad image carries the rule that fails
 abbrev pub carried_by : Refusal → Option ℕ
 carried_by PowerLost = None
-carried_by (BadImage rule) = Some rule
+carried_by (BadImage rule) = Some (rule_number rule)
 carried_by BadName = None
 carried_by NoFile = None
 carried_by NameTaken = None
@@ -20,14 +21,24 @@ carried_by TooManyFiles = None
 carried_by TooLong = None
 carried_by WrongSize = None
 
--- a call was refused
-abbrev pub refused : Refusal → Answer
-refused e = record { number = number e; carried = carried_by e }
+-- the value that a denial carries, and an answer
+abbrev pub denial_carries : Denial → Option ℕ
+denial_carries (Refused refusal) = carried_by refusal
+denial_carries NotAllowed = None
+denial_carries BadCommand = None
+
+abbrev pub carried_of : Said → Option ℕ
+carried_of (Ok value) = value
+carried_of (Err denial) = denial_carries denial
 
 -- a call was done and carries what its result says, or it was refused
-abbrev pub answered : {A : Type 0} → (A → Option ℕ) → Result A Refusal → Answer
-answered says (Ok x) = record { number = 0; carried = says x }
-answered says (Err e) = refused e
+abbrev pub answered : {A : Type 0} → (A → Option ℕ) → Result A Refusal → Said
+answered says (Ok x) = Ok (says x)
+answered says (Err e) = Err (Refused e)
+
+-- a restart found power, or did not
+abbrev pub restarted : Bool → Said
+restarted up = cond up (Ok None) (Err (Refused PowerLost))
 
 -- nothing is carried
 abbrev pub nothing : Unit {0} → Option ℕ
@@ -42,5 +53,5 @@ abbrev pub gave : ℕ → Option ℕ
 gave n = Some n
 
 -- An answer shows no bytes; or it is done, and carries how many it shows, 32 at most.
-abbrev pub MayShow : Answer → ℕ → Type 0
-MayShow a n = (n ≡ 0) ⊎ ((a.number ≡ 0) × (a.carried ≡ Some n) × (n ≤ 32))
+abbrev pub MayShow : ℕ → Option ℕ → ℕ → Type 0
+MayShow number carried n = (n ≡ 0) ⊎ ((number ≡ 0) × (carried ≡ Some n) × (n ≤ 32))

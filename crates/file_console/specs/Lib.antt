@@ -1,4 +1,5 @@
 pub mod Answers
 pub mod Commands
 pub mod Lines
+pub mod Outcomes
 pub mod Session

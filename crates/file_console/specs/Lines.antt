@@ -1,7 +1,7 @@
 -- A line of a session: the letter of the command, a space and the number of the answer; a space and the value carried,
 -- if there is one; a space and the bytes shown, if there are any; and a line feed. Numbers are in base ten, bytes in base sixteen.
-use Rattle.std.specs.Prelude.{◌≡◌, ℕ, ◌+◌, ◌-◌, ◌/◌, ◌%◌, ◌<◌, ◌≤◌, cond, List, [], ◌∷◌, ◌++◌, length, take, drop, Some, None, decimal, Option, nat_lt}
-use Rattle.file_console.specs.declared.answer.Answer.{Answer}
+use Rattle.std.specs.Prelude.{◌≡◌, ℕ, ◌+◌, ◌-◌, ◌/◌, ◌%◌, ◌<◌, ◌≤◌, cond, List, [], ◌∷◌, ◌++◌, length, Some, None, decimal, Option, nat_lt}
+use Rattle.console.specs.Lines.{written}
 
 -- 0 to 9, then a to f
 abbrev pub hex_digit : ℕ → ℕ
@@ -20,12 +20,8 @@ abbrev pub shown_part : List ℕ → List ℕ
 shown_part [] = []
 shown_part (b ∷ bs) = 32 ∷ hex (b ∷ bs)
 
-abbrev pub line : ℕ → Answer → List ℕ → List ℕ
-line letter a bytes = letter ∷ 32 ∷ (decimal a.number ++ (carried_part a.carried ++ (shown_part bytes ++ (10 ∷ []))))
-
--- a buffer with a text written into it from a place on; the other bytes keep what they held
-abbrev pub written : List ℕ → ℕ → List ℕ → List ℕ
-written out at text = take at out ++ (text ++ drop (at + length text) out)
+abbrev pub line : ℕ → ℕ → Option ℕ → List ℕ → List ℕ
+line letter number carried bytes = letter ∷ 32 ∷ (decimal number ++ (carried_part carried ++ (shown_part bytes ++ (10 ∷ []))))
 
 -- The whole text is written at the start of a buffer, and its length is answered; or it does not fit, and nothing is written.
 pub record Writes (out text : List ℕ) (r : Option ℕ) (out' : List ℕ) : Type 0 where

@@ -11,7 +11,7 @@ pub const SHOWN: usize = 32;
 pub type Given = [u8; SHOWN];
 
 // What a session is told to do.
-#[derive(Clone, Copy, Debug)]
+#[derive(Clone, Copy, PartialEq, Eq, Debug)]
 pub enum Command {
     // turn power off and on again
     Restart,
@@ -67,13 +67,8 @@ fn take_name(input: &[u8]) -> Option<(Name, &[u8])>
     ensures value { option_map (λ x. (x.0, x.1.now)) result ≡ first_bytes 8 input.now }
     ensures shorter { IfSome result (λ x. length x.1.now ≤ length input.now) }
 {
-    if input.len() < 8 {
-        return None;
-    }
-    let (front, rest) = input.split_at(8);
-    let mut name = [0; 8];
-    name.copy_from_slice(front);
-    Some((name, rest))
+    let (name, rest) = input.split_first_chunk()?;
+    Some((*name, rest))
 }
 
 // The number in the first four bytes of the input, the lowest first, and what follows it; none if there are fewer.
@@ -81,10 +76,8 @@ fn take_number(input: &[u8]) -> Option<(u32, &[u8])>
     ensures value { option_map (λ x. (x.0, x.1.now)) result ≡ number 4 input.now }
     ensures shorter { IfSome result (λ x. length x.1.now ≤ length input.now) }
 {
-    let [a, b, c, d, rest @ ..] = input else {
-        return None;
-    };
-    Some((u32::from_le_bytes([*a, *b, *c, *d]), rest))
+    let (bytes, rest) = input.split_first_chunk()?;
+    Some((u32::from_le_bytes(*bytes), rest))
 }
 
 // A cut point: the number of operations, two bytes.
@@ -92,10 +85,8 @@ fn parse_cut_point(input: &[u8]) -> Option<(Command, &[u8])>
     ensures value { option_map (λ x. (x.0, x.1.now)) result ≡ cut_points input.now }
     ensures shorter { IfSome result (λ x. length x.1.now ≤ length input.now) }
 {
-    let [low, high, rest @ ..] = input else {
-        return None;
-    };
-    Some((Command::CutPoint(u16::from_le_bytes([*low, *high])), rest))
+    let (bytes, rest) = input.split_first_chunk()?;
+    Some((Command::CutPoint(u16::from_le_bytes(*bytes)), rest))
 }
 
 // A create: the name.
@@ -143,17 +134,13 @@ fn parse_read(input: &[u8]) -> Option<(Command, &[u8])>
 {
     let (name, rest) = take_name(input)?;
     let (offset, rest) = take_number(rest)?;
-    let [count, rest @ ..] = rest else {
-        return None;
+    let (&count, rest) = rest.split_first()?;
+    let command = Command::Read {
+        name,
+        offset,
+        count,
     };
-    Some((
-        Command::Read {
-            name,
-            offset,
-            count: *count,
-        },
-        rest,
-    ))
+    Some((command, rest))
 }
 
 // The first command of the input, and what follows it; none if it is unknown or short.
@@ -161,16 +148,17 @@ pub fn parse(input: &[u8]) -> Option<(Command, &[u8])>
     ensures value { option_map (λ x. (x.0, x.1.now)) result ≡ parsed input.now }
     ensures shorter { IfSome result (λ x. length x.1.now < length input.now) }
 {
-    match input {
-        [b'P', rest @ ..] => Some((Command::Restart, rest)),
-        [b'F', rest @ ..] => Some((Command::Format, rest)),
-        [b'R', rest @ ..] => Some((Command::Recover, rest)),
-        [b'K', rest @ ..] => parse_cut_point(rest),
-        [b'C', rest @ ..] => parse_create(rest),
-        [b'D', rest @ ..] => parse_remove(rest),
-        [b'S', rest @ ..] => parse_shorten(rest),
-        [b'N', rest @ ..] => parse_rename(rest),
-        [b'G', rest @ ..] => parse_read(rest),
+    let (letter, rest) = input.split_first()?;
+    match letter {
+        b'P' => Some((Command::Restart, rest)),
+        b'F' => Some((Command::Format, rest)),
+        b'R' => Some((Command::Recover, rest)),
+        b'K' => parse_cut_point(rest),
+        b'C' => parse_create(rest),
+        b'D' => parse_remove(rest),
+        b'S' => parse_shorten(rest),
+        b'N' => parse_rename(rest),
+        b'G' => parse_read(rest),
         _ => None,
     }
 }

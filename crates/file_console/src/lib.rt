@@ -5,4 +5,3 @@ pub mod answer;
 pub mod command;
 pub mod line;
 pub mod state;
-pub mod turn;

@@ -1,10 +1,16 @@
-ghost use Rattle.std.specs.Prelude.{◌≡◌, ◌≤◌, false, take};
-ghost use Rattle.file_console.specs.Answers.{MayShow};
-ghost use Rattle.file_console.specs.Commands.{asks_too_much};
-ghost use Rattle.file_console.specs.Session.{Does, Reads, Steps, allows, next};
+ghost use Rattle.std.specs.Prelude.{◌≡◌, ◌≤◌, false, length};
+ghost use Rattle.console.specs.Denials.{number_of};
+ghost use Rattle.file_console.specs.Answers.{MayShow, carried_of};
+ghost use Rattle.file_console.specs.Outcomes.{count_of, said, shown_of};
+ghost use Rattle.file_console.specs.Commands.{asks_too_much, parsed};
+ghost use Rattle.file_console.specs.Session.{Does, Reads, Steps, Tells, allows, next};
 
-use crate::answer::{Answer, BAD_COMMAND, DONE, NOT_ALLOWED, POWER_LOST};
-use crate::command::{Command, Given};
+use crate::answer::carried;
+use crate::command::{Command, Given, SHOWN, parse};
+use crate::line::write_line;
+use console::denial::Denial;
+use console::session::Session;
+use image_check::refusal::Refusal;
 use layout::name::Name;
 use memory::cut_point::CutPoint;
 use store::format::format;
@@ -24,21 +30,11 @@ pub enum State {
     Ready,
 }
 
-// The answer of a command, and how many bytes of the buffer it shows.
+// What a command gives that was done: the value that it carries, and how many bytes of the buffer it shows.
 #[derive(Clone, Copy)]
-pub struct Outcome {
-    pub answer: Answer,
+pub struct Done {
+    pub carried: Option<u16>,
     pub shown: usize,
-}
-
-impl Outcome {
-    // An answer that shows no bytes.
-    fn bare(answer: Answer) -> Outcome
-        ensures answer { result.answer ≡ answer }
-        ensures shown { result.shown ≡ 0 }
-    {
-        Outcome { answer, shown: 0 }
-    }
 }
 
 impl State {
@@ -66,37 +62,68 @@ impl State {
     }
 
     // The state after a command that was allowed and then answered.
-    fn next(self, command: Command, answer: Answer) -> State
-        ensures { result ≡ next self command answer }
+    fn next(self, command: Command, done: &Result<Done, Denial>) -> State
+        ensures { result ≡ next self command (said done.now) }
     {
-        match (command, answer.number) {
-            (_, POWER_LOST) => State::Off,
+        match (command, done) {
+            (_, Err(Denial::Refused(Refusal::PowerLost))) => State::Off,
             (Command::Restart, _) => State::Unread,
-            (Command::Recover, DONE) => State::Ready,
+            (Command::Recover, Ok(_)) => State::Ready,
             _ => self,
         }
     }
 
-    // Carries out a command on a memory, and answers it; the bytes that it shows are put into the buffer.
+    // Carries out a command on a memory; the bytes that it shows are put into the buffer.
     pub fn step<M: CutPoint>(
         &mut self,
         memory: &mut M,
         command: Command,
         buffer: &mut Given,
-    ) -> Outcome
-        ensures steps { Steps M.Memory.model M.CutPoint.cut self.old command memory.old result.answer (take result.shown buffer.new) self.new memory.new }
-        ensures few { MayShow result.answer result.shown }
+    ) -> Result<Done, Denial>
+        ensures steps { Steps M.Memory.model M.CutPoint.cut self.old command memory.old (said result) (shown_of result buffer.new) self.new memory.new }
+        ensures few { MayShow (number_of (said result)) (carried_of (said result)) (count_of result) }
         ensures lent { M.Memory.lent memory.new ≡ M.Memory.lent memory.old }
     {
         if command.asks_too_much() {
-            return Outcome::bare(Answer::plain(BAD_COMMAND));
+            return Err(Denial::BadCommand);
         }
         if !self.allows(command) {
-            return Outcome::bare(Answer::plain(NOT_ALLOWED));
+            return Err(Denial::NotAllowed);
         }
-        let outcome = carry_out(memory, command, buffer);
-        *self = self.next(command, outcome.answer);
-        outcome
+        let done = carry_out(memory, command, buffer);
+        *self = self.next(command, &done);
+        done
+    }
+}
+
+impl<M: CutPoint> Session<M> for State {
+    type Command = Command;
+
+    ghost first = { parsed };
+
+    ghost tells = { Tells M.Memory.model M.CutPoint.cut };
+
+    fn parse(input: &[u8]) -> Option<(Command, &[u8])> {
+        parse(input)
+    }
+
+    fn answer(&mut self, memory: &mut M, command: Command, out: &mut [u8]) -> Option<usize> {
+        let mut buffer = [0u8; SHOWN];
+        match self.step(memory, command, &mut buffer) {
+            Ok(done) => {
+                let shown = &buffer[..done.shown];
+                write_line(out, command.letter(), 0, done.carried, shown)
+            }
+            Err(denial) => {
+                write_line(
+                    out,
+                    command.letter(),
+                    u8::from(denial),
+                    carried(denial),
+                    &[],
+                )
+            }
+        }
     }
 }
 
@@ -107,54 +134,49 @@ fn show_file<M: CutPoint>(
     offset: u32,
     count: u8,
     buffer: &mut Given,
-) -> Outcome
+) -> Result<Done, Denial>
     requires { count ≤ 32 }
-    ensures reads { Reads (M.Memory.model memory.old) name offset count result.answer (take result.shown buffer.new) (M.Memory.model memory.new) }
-    ensures few { MayShow result.answer result.shown }
+    ensures reads { Reads (M.Memory.model memory.old) name offset count (said result) (shown_of result buffer.new) (M.Memory.model memory.new) }
+    ensures few { MayShow (number_of (said result)) (carried_of (said result)) (count_of result) }
     ensures lent { M.Memory.lent memory.new ≡ M.Memory.lent memory.old }
 {
-    match read(memory, name, offset, &mut buffer[..usize::from(count)]) {
-        Ok(given) => Outcome {
-            answer: Answer {
-                number: DONE,
-                carried: Some(given as u16),
-            },
-            shown: given,
-        },
-        Err(refusal) => Outcome::bare(Answer::refused(refusal)),
-    }
+    let given = read(memory, name, offset, &mut buffer[..usize::from(count)])?;
+    Ok(Done {
+        carried: Some(given as u16),
+        shown: given,
+    })
 }
 
 // Carries out a command that is allowed.
-fn carry_out<M: CutPoint>(memory: &mut M, command: Command, buffer: &mut Given) -> Outcome
+fn carry_out<M: CutPoint>(
+    memory: &mut M,
+    command: Command,
+    buffer: &mut Given,
+) -> Result<Done, Denial>
     requires { asks_too_much command ≡ false }
-    ensures does { Does M.Memory.model M.CutPoint.cut command memory.old result.answer (take result.shown buffer.new) memory.new }
-    ensures few { MayShow result.answer result.shown }
+    ensures does { Does M.Memory.model M.CutPoint.cut command memory.old (said result) (shown_of result buffer.new) memory.new }
+    ensures few { MayShow (number_of (said result)) (carried_of (said result)) (count_of result) }
     ensures lent { M.Memory.lent memory.new ≡ M.Memory.lent memory.old }
 {
-    let answer = match command {
-        Command::Restart => Answer::plain(if memory.restart() { DONE } else { POWER_LOST }),
-        Command::Format => Answer::of_call(format(memory)),
-        Command::Recover => match recover(memory) {
-            Ok(put) => Answer {
-                number: DONE,
-                carried: Some(u16::from(put)),
-            },
-            Err(refusal) => Answer::refused(refusal),
-        },
-        Command::CutPoint(operations) => {
-            memory.cut_after(Some(u64::from(operations)));
-            Answer::plain(DONE)
+    let mut carried = None;
+    match command {
+        Command::Restart => {
+            if !memory.restart() {
+                return Err(Denial::Refused(Refusal::PowerLost));
+            }
         }
-        Command::Create(name) => Answer::of_call(create(memory, name)),
-        Command::Remove(name) => Answer::of_call(remove(memory, name)),
-        Command::Shorten { name, length } => Answer::of_call(shorten(memory, name, length)),
-        Command::Rename { name, new } => Answer::of_call(rename(memory, name, new)),
+        Command::Format => format(memory)?,
+        Command::Recover => carried = Some(u16::from(recover(memory)?)),
+        Command::CutPoint(operations) => memory.cut_after(Some(u64::from(operations))),
+        Command::Create(name) => create(memory, name)?,
+        Command::Remove(name) => remove(memory, name)?,
+        Command::Shorten { name, length } => shorten(memory, name, length)?,
+        Command::Rename { name, new } => rename(memory, name, new)?,
         Command::Read {
             name,
             offset,
             count,
         } => return show_file(memory, name, offset, count, buffer),
-    };
-    Outcome::bare(answer)
+    }
+    Ok(Done { carried, shown: 0 })
 }

@@ -1,6 +1,9 @@
 use image_check::refusal::Refusal;
+use media::byte_image::ByteImage;
+use memory::fault::Fault;
 use memory::memory::Memory;
-use std::test::Fail;
+use std::process::Abort;
+use store::format::format;
 use store::names::{create, remove, rename};
 use store::read::read;
 use store::shorten::shorten;
@@ -30,18 +33,28 @@ pub(crate) fn make<M: Memory>(memory: &mut M, call: Call) -> Result<(), Refusal>
         Call::Shorten(name, length) => shorten(memory, name, length),
         Call::Read(name) => {
             let mut buffer = [0xa5; 8];
-            match read(memory, name, 0, &mut buffer) {
-                Ok(_) => Ok(()),
-                Err(refusal) => Err(refusal),
-            }
+            read(memory, name, 0, &mut buffer).map(|_| ())
         }
     }
 }
 
+// A memory in these bytes, with power on.
+pub(crate) fn image_in<'a>(rt: &impl Abort, bytes: &'a mut [u8]) -> ByteImage<'a> {
+    let mut memory = ByteImage::new(bytes);
+    assert!(rt; memory.restart());
+    memory
+}
+
+// Makes an empty store of a memory.
+pub(crate) fn make_store<M: Memory>(rt: &impl Abort, memory: &mut M) {
+    assert!(rt; memory.restart());
+    assert_eq!(rt; format(memory), Ok(()));
+}
+
 // Stores words at their places.
-pub(crate) fn store_words<M: Memory>(memory: &mut M, words: &[(u64, u64)]) -> Result<(), Fail> {
-    for word in words {
-        memory.store(word.0, word.1)?;
+pub(crate) fn store_words<M: Memory>(memory: &mut M, words: &[(u64, u64)]) -> Result<(), Fault> {
+    for (at, value) in words {
+        memory.store(*at, *value)?;
     }
     Ok(())
 }
@@ -71,22 +84,16 @@ pub(crate) fn has_file<M: Memory>(memory: &mut M, file: File) -> bool {
 }
 
 // How many slots have a name.
-pub(crate) fn count_files<M: Memory>(memory: &mut M) -> Result<usize, Fail> {
-    let mut count = 0usize;
-    for slot in 0..16 {
-        if memory.load(64 + 2 * slot)? != 0 {
-            count = count.saturating_add(1);
-        }
+pub(crate) fn count_files<M: Memory>(memory: &mut M) -> Result<usize, Fault> {
+    let mut names = [0; 16];
+    for (slot, name) in names.iter_mut().enumerate() {
+        *name = memory.load(64 + 2 * slot as u64)?;
     }
-    Ok(count)
+    Ok(names.iter().filter(|name| **name != 0).count())
 }
 
 // Whether these files are there and no others.
-pub(crate) fn has_only<M: Memory>(memory: &mut M, files: &[File]) -> Result<bool, Fail> {
-    for file in files {
-        if !has_file(memory, *file) {
-            return Ok(false);
-        }
-    }
-    Ok(count_files(memory)? == files.len())
+pub(crate) fn has_only<M: Memory>(memory: &mut M, files: &[File]) -> Result<bool, Fault> {
+    let all = files.iter().all(|file| has_file(memory, *file));
+    Ok(all && count_files(memory)? == files.len())
 }

@@ -1,4 +1,4 @@
-use crate::bench::{A, B, C, Call, File, has_only, make, store_words};
+use crate::bench::{A, B, C, Call, File, has_only, make, make_store, store_words};
 use image_check::refusal::Refusal;
 use layers::cache::Cache;
 use media::byte_image::ByteImage;
@@ -8,7 +8,6 @@ use memory::memory::Memory;
 use std::alloc::Global;
 use std::process::Abort;
 use std::test::Fail;
-use store::format::format;
 use store::recover::recover;
 
 // Eight blocks with two files, `A` of twelve bytes and `B` of three. Slot 2 is empty, and its root word is that of `B`.
@@ -41,11 +40,7 @@ const SHORT: File = File {
 };
 
 // `A` under another name, and `A` cut to five bytes.
-const RENAMED: File = File {
-    name: C,
-    length: 12,
-    bytes: *b"HELLO, WORLD\0\0\0\0",
-};
+const RENAMED: File = File { name: C, ..LONG };
 
 const CUT: File = File {
     name: A,
@@ -60,11 +55,7 @@ const EMPTIED: File = File {
     bytes: [0; 16],
 };
 
-const CREATED: File = File {
-    name: C,
-    length: 0,
-    bytes: [0; 16],
-};
+const CREATED: File = File { name: C, ..EMPTIED };
 
 // The files before each call.
 const BEFORE: [File; 2] = [LONG, SHORT];
@@ -104,13 +95,6 @@ const EMPTY: Case = Case {
 // More loads, stores and barriers than a call takes.
 const MANY: u64 = 50;
 
-// Makes an empty store of a memory.
-fn make_store<M: Memory>(rt: &impl Abort, memory: &mut M) {
-    assert!(rt; memory.restart());
-    assert_eq!(rt; format(memory), Ok(()));
-    assert_eq!(rt; recover(memory), Ok(false));
-}
-
 // Cuts a call off after so many operations, recovers and looks at the files; answers whether the call was done.
 fn is_done_before_cut<M: CutPoint>(
     rt: &impl Abort,
@@ -143,6 +127,7 @@ fn is_whole_after_any_cut<M: CutPoint>(
     given: u8,
 ) -> Result<(), Fail> {
     make_store(rt, memory);
+    assert_eq!(rt; recover(memory), Ok(false));
     assert!(rt;
         !is_done_before_cut(rt, memory, case, given, 0)?,
         "given {given}"

@@ -1,12 +1,12 @@
 use crate::bench::{
-    A, B, C, Call, File, count_files, empty, has_file, has_only, make, store_words,
+    A, B, C, Call, File, count_files, empty, has_file, has_only, image_in, make, make_store,
+    store_words,
 };
 use image_check::refusal::Refusal;
 use media::byte_image::ByteImage;
 use memory::memory::Memory;
 use std::process::Abort;
 use std::test::Fail;
-use store::format::format;
 use store::names::{create, remove, rename};
 
 // The name of one letter.
@@ -16,8 +16,7 @@ fn one_letter(letter: u8) -> [u8; 8] {
 
 // Makes an empty store with a file for each of these letters.
 fn create_all<M: Memory>(rt: &impl Abort, memory: &mut M, letters: &[u8]) {
-    assert!(rt; memory.restart());
-    assert_eq!(rt; format(memory), Ok(()));
+    make_store(rt, memory);
     for letter in letters {
         assert_eq!(rt; create(memory, one_letter(*letter)), Ok(()));
     }
@@ -123,8 +122,7 @@ fn a_new_file_is_empty_whatever_its_slot_held(rt: HostRuntime) -> Result<(), Fai
         u64::MAX,
     ] {
         let mut bytes = [0; 1536];
-        let mut memory = ByteImage::new(&mut bytes);
-        assert!(rt; memory.restart());
+        let mut memory = image_in(&rt, &mut bytes);
         store_words(&mut memory, &IMAGE)?;
         memory.store(65, old)?;
         assert_eq!(rt; create(&mut memory, A), Ok(()));
@@ -138,8 +136,7 @@ fn a_new_file_is_empty_whatever_its_slot_held(rt: HostRuntime) -> Result<(), Fai
 #[test]
 fn a_removed_file_leaves_no_bytes_to_the_next(rt: HostRuntime) -> Result<(), Fail> {
     let mut bytes = [0; 1536];
-    let mut memory = ByteImage::new(&mut bytes);
-    assert!(rt; memory.restart());
+    let mut memory = image_in(&rt, &mut bytes);
     store_words(&mut memory, &IMAGE)?;
     for slot in [0, 2, 3] {
         memory.store(65 + 2 * slot, 0x0000_0003_0000_0003)?;

@@ -1,10 +1,9 @@
-use crate::bench::{Call, count_files, empty, has_file, make};
+use crate::bench::{Call, count_files, empty, has_file, make, make_store};
 use image_check::refusal::Refusal;
 use media::byte_image::ByteImage;
 use memory::memory::Memory;
 use std::process::Abort;
 use std::test::Fail;
-use store::format::format;
 use store::names::{create, remove};
 
 // Names of one to eight letters, and the words that hold them.
@@ -23,8 +22,7 @@ const LENGTHS: [([u8; 8], u64); 8] = [
 fn a_name_has_one_to_eight_letters(rt: HostRuntime) -> Result<(), Fail> {
     let mut bytes = [0xa5; 1536];
     let mut memory = ByteImage::new(&mut bytes);
-    assert!(rt; memory.restart());
-    assert_eq!(rt; format(&mut memory), Ok(()));
+    make_store(&rt, &mut memory);
     for (name, word) in LENGTHS {
         assert_eq!(rt; create(&mut memory, name), Ok(()));
         assert_eq!(rt; memory.load(64), Ok(word));
@@ -47,45 +45,25 @@ const LETTERS: &[u8; 37] = b"ABCDEFGHIJKLMNOPQRSTUVWXYZ0123456789-";
 
 // Whether a byte is one of them.
 fn is_letter(byte: u8) -> bool {
-    for letter in LETTERS {
-        if *letter == byte {
-            return true;
-        }
-    }
-    false
+    LETTERS.contains(&byte)
 }
 
 // Whether a name has so many letters and then only zeros.
 fn has_length(name: [u8; 8], length: usize) -> bool {
-    for i in 0..8usize {
-        let good = if i < length {
-            is_letter(name[i])
-        } else {
-            name[i] == 0
-        };
-        if !good {
-            return false;
-        }
-    }
-    true
+    let letters = name.iter().take(length).all(|byte| is_letter(*byte));
+    letters && name.iter().skip(length).all(|byte| *byte == 0)
 }
 
 // Whether it is a name of one to eight letters.
 fn is_name(name: [u8; 8]) -> bool {
-    for length in 1..9usize {
-        if has_length(name, length) {
-            return true;
-        }
-    }
-    false
+    (1..9).any(|length| has_length(name, length))
 }
 
 // Puts each byte at each place of a name, and checks whether there can be a file of that name.
 fn tries_every_byte(rt: &impl Abort, name: [u8; 8]) -> Result<(), Fail> {
     let mut bytes = [0xa5; 1536];
     let mut memory = ByteImage::new(&mut bytes);
-    assert!(rt; memory.restart());
-    assert_eq!(rt; format(&mut memory), Ok(()));
+    make_store(rt, &mut memory);
     for place in 0..8usize {
         for byte in 0..=255u8 {
             let mut tried = name;
@@ -145,8 +123,7 @@ fn a_letter_is_a_capital_a_digit_or_a_hyphen(rt: HostRuntime) {
 fn a_bad_name_is_refused_by_every_call(rt: HostRuntime) -> Result<(), Fail> {
     let mut bytes = [0xa5; 1536];
     let mut memory = ByteImage::new(&mut bytes);
-    assert!(rt; memory.restart());
-    assert_eq!(rt; format(&mut memory), Ok(()));
+    make_store(&rt, &mut memory);
     assert_eq!(rt; create(&mut memory, *b"A\0\0\0\0\0\0\0"), Ok(()));
     for bad in [
         [0; 8],

@@ -1,8 +1,9 @@
-use crate::bench::B;
+use crate::bench::{B, store_words};
 use image_check::refusal::Refusal;
+use memory::fault::Fault;
 use memory::memory::Memory;
+use std::array;
 use std::process::Abort;
-use std::test::Fail;
 use store::read::read;
 
 // Six blocks with two files: `B`, of 300 bytes, in slot 5, with its map in block 3 and its bytes in blocks 5 and 4;
@@ -24,23 +25,12 @@ fn pattern(at: u64) -> u8 {
 // Word `k` of `B`.
 fn file_word(k: u8) -> u64 {
     let at = 8 * u64::from(k);
-    u64::from_le_bytes([
-        pattern(at),
-        pattern(at + 1),
-        pattern(at + 2),
-        pattern(at + 3),
-        pattern(at + 4),
-        pattern(at + 5),
-        pattern(at + 6),
-        pattern(at + 7),
-    ])
+    u64::from_le_bytes(array::from_fn(|i| pattern(at + i as u64)))
 }
 
 // Makes the image in a memory that is up and otherwise zero.
-pub(crate) fn fill<M: Memory>(memory: &mut M) -> Result<(), Fail> {
-    for word in IMAGE {
-        memory.store(word.0, word.1)?;
-    }
+pub(crate) fn fill<M: Memory>(memory: &mut M) -> Result<(), Fault> {
+    store_words(memory, &IMAGE)?;
     for k in 0..32u8 {
         memory.store(160 + u64::from(k), file_word(k))?;
         memory.store(128 + u64::from(k), file_word(32 + k))?;
@@ -53,7 +43,7 @@ pub(crate) const OLD: u8 = 0xa5;
 
 // Checks a buffer whose first bytes, `size` of them, were lent to a read of `B` from an offset on that gave `given` bytes.
 pub(crate) fn check_bytes(rt: &impl Abort, buffer: &[u8], offset: u32, size: usize, given: usize) {
-    for k in 0..buffer.len() {
+    for (k, byte) in buffer.iter().enumerate() {
         let expected = if k >= size {
             OLD
         } else if k >= given {
@@ -61,7 +51,7 @@ pub(crate) fn check_bytes(rt: &impl Abort, buffer: &[u8], offset: u32, size: usi
         } else {
             pattern(u64::from(offset) + k as u64)
         };
-        assert_eq!(rt; buffer[k], expected, "byte {k} from {offset} on");
+        assert_eq!(rt; *byte, expected, "byte {k} from {offset} on");
     }
 }
 
@@ -86,8 +76,7 @@ pub(crate) fn check_read<M: Memory>(
     size: usize,
 ) {
     let mut buffer = [OLD; 324];
-    let rest = if offset < length { length - offset } else { 0 };
-    let given = size.min(rest as usize);
+    let given = size.min(length.saturating_sub(offset) as usize);
     assert_eq!(rt;
         read_first(rt, memory, offset, &mut buffer, size),
         Ok(given)

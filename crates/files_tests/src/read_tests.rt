@@ -1,7 +1,6 @@
-use crate::bench::{A, B, C, store_words};
+use crate::bench::{A, B, C, image_in, store_words};
 use crate::pattern::{OLD, check_bytes, check_read, fill, read_first};
-use image_check::refusal::Refusal;
-use media::byte_image::ByteImage;
+use image_check::refusal::{Refusal, Rule};
 use memory::cut_point::CutPoint;
 use memory::memory::Memory;
 use std::process::Abort;
@@ -35,8 +34,7 @@ const GIVEN: [(u32, usize, usize); 20] = [
 #[test]
 fn a_read_gives_what_the_file_has(rt: HostRuntime) -> Result<(), Fail> {
     let mut bytes = [0; 1536];
-    let mut memory = ByteImage::new(&mut bytes);
-    assert!(rt; memory.restart());
+    let mut memory = image_in(&rt, &mut bytes);
     fill(&mut memory)?;
     for (offset, size, given) in GIVEN {
         let mut buffer = [OLD; 324];
@@ -59,12 +57,10 @@ fn reads_from<M: Memory>(rt: &impl Abort, memory: &mut M, first: u32, end: u32) 
 #[test]
 fn bytes_are_read_across_the_edge_of_blocks_and_at_the_end(rt: HostRuntime) -> Result<(), Fail> {
     let mut bytes = [0; 1536];
-    let mut memory = ByteImage::new(&mut bytes);
-    assert!(rt; memory.restart());
+    let mut memory = image_in(&rt, &mut bytes);
     fill(&mut memory)?;
     let before = bytes;
-    let mut memory = ByteImage::new(&mut bytes);
-    assert!(rt; memory.restart());
+    let mut memory = image_in(&rt, &mut bytes);
     reads_from(&rt, &mut memory, 0, 10);
     reads_from(&rt, &mut memory, 238, 275);
     reads_from(&rt, &mut memory, 282, 318);
@@ -76,8 +72,7 @@ fn bytes_are_read_across_the_edge_of_blocks_and_at_the_end(rt: HostRuntime) -> R
 #[test]
 fn an_empty_file_gives_nothing(rt: HostRuntime) -> Result<(), Fail> {
     let mut bytes = [0; 1536];
-    let mut memory = ByteImage::new(&mut bytes);
-    assert!(rt; memory.restart());
+    let mut memory = image_in(&rt, &mut bytes);
     fill(&mut memory)?;
     for offset in [0, 1, 255, 256, 300, u32::MAX] {
         let mut buffer = [OLD; 24];
@@ -119,26 +114,25 @@ const REFUSED: [Refused; 6] = [
         changes: &[(8, 1), (9, 5)],
         up: true,
         name: B,
-        refusal: Refusal::BadImage(6),
+        refusal: Refusal::BadImage(Rule::LogEntry),
     },
     Refused {
         changes: &[(97, 5)],
         up: true,
         name: B,
-        refusal: Refusal::BadImage(5),
+        refusal: Refusal::BadImage(Rule::Blocks),
     },
     Refused {
         changes: &[(97, 6)],
         up: true,
         name: A,
-        refusal: Refusal::BadImage(4),
+        refusal: Refusal::BadImage(Rule::Maps),
     },
 ];
 
 // Checks that a read is refused in these bytes, and that its buffer is zero then.
 fn refuses(rt: &impl Abort, bytes: &mut [u8], case: Refused) -> Result<(), Fail> {
-    let mut memory = ByteImage::new(bytes);
-    assert!(rt; memory.restart());
+    let mut memory = image_in(rt, bytes);
     fill(&mut memory)?;
     store_words(&mut memory, case.changes)?;
     if !case.up {
@@ -177,31 +171,30 @@ fn a_refused_read_leaves_zeros(rt: HostRuntime) -> Result<(), Fail> {
 const MANY: u64 = 150;
 
 // Cuts a read off after so many loads, and answers whether it came to its end.
-fn ends_before_cut<M: CutPoint>(rt: &impl Abort, memory: &mut M, cut: u64) -> Result<bool, Fail> {
+fn ends_before_cut<M: CutPoint>(rt: &impl Abort, memory: &mut M, cut: u64) -> bool {
     assert!(rt; memory.restart());
     memory.cut_after(Some(cut));
     let mut buffer = [OLD; 40];
     let answer = read(memory, B, 240, &mut buffer);
     if answer == Ok(40) {
         check_bytes(rt, &buffer, 240, 40, 40);
-        return Ok(true);
+        return true;
     }
     assert_eq!(rt; answer, Err(Refusal::PowerLost));
     assert_eq!(rt; buffer, [0; 40]);
-    Ok(false)
+    false
 }
 
 #[test]
 fn a_read_that_is_cut_off_leaves_zeros(rt: HostRuntime) -> Result<(), Fail> {
     let mut bytes = [0; 1536];
-    let mut memory = ByteImage::new(&mut bytes);
-    assert!(rt; memory.restart());
+    let mut memory = image_in(&rt, &mut bytes);
     fill(&mut memory)?;
-    assert!(rt; !ends_before_cut(&rt, &mut memory, 0)?);
+    assert!(rt; !ends_before_cut(&rt, &mut memory, 0));
     for cut in 1..MANY {
         // the bytes alone take a load each
-        assert!(rt; !ends_before_cut(&rt, &mut memory, cut)? || cut >= 40);
+        assert!(rt; !ends_before_cut(&rt, &mut memory, cut) || cut >= 40);
     }
-    assert!(rt; ends_before_cut(&rt, &mut memory, MANY)?);
+    assert!(rt; ends_before_cut(&rt, &mut memory, MANY));
     Ok(())
 }

@@ -1,6 +1,6 @@
-use crate::bench::{A, B, C, Call, make, store_words};
+use crate::bench::{A, B, C, Call, image_in, make, store_words};
 use image_check::image::check_image;
-use image_check::refusal::Refusal;
+use image_check::refusal::{Refusal, Rule};
 use media::byte_image::ByteImage;
 use memory::memory::Memory;
 use std::process::Abort;
@@ -24,66 +24,49 @@ struct Found {
     up: bool,
 }
 
-// Six blocks with these words changed, and power.
-fn changed(changes: &'static [(u64, u64)]) -> Found {
-    Found {
-        changes,
-        size: 1536,
-        up: true,
-    }
-}
-
 const SOUND: Found = Found {
     changes: &[],
     size: 1536,
     up: true,
 };
 
+// Six blocks with these words changed, and power.
+fn changed(changes: &'static [(u64, u64)]) -> Found {
+    Found { changes, ..SOUND }
+}
+
 // The count of blocks is not the memory's.
 const BROKEN: Found = Found {
     changes: &[(0, 7)],
-    size: 1536,
-    up: true,
+    ..SOUND
 };
 
 // The log is not free.
 const BUSY: Found = Found {
     changes: &[(8, 1)],
-    size: 1536,
-    up: true,
+    ..SOUND
 };
 
 // Five blocks.
 const SMALL: Found = Found {
-    changes: &[],
     size: 1280,
-    up: true,
+    ..SOUND
 };
 
 // Six blocks and a word.
 const UNEVEN: Found = Found {
-    changes: &[],
     size: 1544,
-    up: true,
+    ..SOUND
 };
 
-const DOWN: Found = Found {
-    changes: &[],
-    size: 1536,
-    up: false,
-};
+const DOWN: Found = Found { up: false, ..SOUND };
 
 const BROKEN_DOWN: Found = Found {
-    changes: &[(0, 7)],
-    size: 1536,
     up: false,
+    ..BROKEN
 };
 
-const SMALL_DOWN: Found = Found {
-    changes: &[],
-    size: 1280,
-    up: false,
-};
+const SMALL_DOWN: Found = Found { up: false, ..SMALL };
 
 const UNEVEN_BROKEN_DOWN: Found = Found {
     changes: &[(64, 0x61)],
@@ -109,8 +92,7 @@ const FULL: Found = Found {
         (92, 0x50),
         (94, 0x51),
     ],
-    size: 1536,
-    up: true,
+    ..SOUND
 };
 
 // What a call answers of the first bytes.
@@ -126,8 +108,7 @@ fn answer(rt: &impl Abort, bytes: &mut [u8], found: Found, call: Call) -> Result
 // Checks that a call is refused, and that no byte is changed.
 fn refuses(rt: &impl Abort, found: Found, call: Call, refusal: Refusal) -> Result<(), Fail> {
     let mut bytes = [0; 1544];
-    let mut memory = ByteImage::new(&mut bytes);
-    assert!(rt; memory.restart());
+    let mut memory = image_in(rt, &mut bytes);
     store_words(&mut memory, &IMAGE)?;
     store_words(&mut memory, found.changes)?;
     let before = bytes;
@@ -220,19 +201,19 @@ fn without_power_the_rules_are_not_tried(rt: HostRuntime) -> Result<(), Fail> {
 #[test]
 fn a_broken_rule_comes_before_the_files(rt: HostRuntime) -> Result<(), Fail> {
     let cases = [
-        (changed(&[(0, 7)]), 1),
-        (changed(&[(64, 0x61)]), 2),
-        (changed(&[(68, 0x42)]), 2),
-        (changed(&[(65, 0x0000_0003_0000_0002)]), 3),
-        (changed(&[(67, 0x0000_2001_0000_0005)]), 3),
-        (changed(&[(96, 6)]), 4),
-        (changed(&[(96, 3)]), 5),
-        (changed(&[(8, 3)]), 6),
-        (changed(&[(8, 1), (9, 16)]), 6),
+        (changed(&[(0, 7)]), Rule::BlockCount),
+        (changed(&[(64, 0x61)]), Rule::Names),
+        (changed(&[(68, 0x42)]), Rule::Names),
+        (changed(&[(65, 0x0000_0003_0000_0002)]), Rule::Roots),
+        (changed(&[(67, 0x0000_2001_0000_0005)]), Rule::Roots),
+        (changed(&[(96, 6)]), Rule::Maps),
+        (changed(&[(96, 3)]), Rule::Blocks),
+        (changed(&[(8, 3)]), Rule::LogEntry),
+        (changed(&[(8, 1), (9, 16)]), Rule::LogEntry),
         // two rules at once, and one beside a log that is not free
-        (changed(&[(0, 5), (64, 0x61)]), 1),
-        (changed(&[(8, 1), (64, 0x61)]), 2),
-        (changed(&[(8, 2), (96, 3)]), 5),
+        (changed(&[(0, 5), (64, 0x61)]), Rule::BlockCount),
+        (changed(&[(8, 1), (64, 0x61)]), Rule::Names),
+        (changed(&[(8, 2), (96, 3)]), Rule::Blocks),
     ];
     for (found, rule) in cases {
         refuses_all(&rt, found, Refusal::BadImage(rule))?;
@@ -243,14 +224,10 @@ fn a_broken_rule_comes_before_the_files(rt: HostRuntime) -> Result<(), Fail> {
 // Whether the check takes the image.
 fn is_sound(rt: &impl Abort, found: Found) -> Result<bool, Fail> {
     let mut bytes = [0; 1536];
-    let mut memory = ByteImage::new(&mut bytes);
-    assert!(rt; memory.restart());
+    let mut memory = image_in(rt, &mut bytes);
     store_words(&mut memory, &IMAGE)?;
     store_words(&mut memory, found.changes)?;
-    match check_image(&mut memory) {
-        Ok(_) => Ok(true),
-        Err(_) => Ok(false),
-    }
+    Ok(check_image(&mut memory).is_ok())
 }
 
 #[test]
@@ -264,7 +241,7 @@ fn a_log_that_is_not_free_breaks_rule_6(rt: HostRuntime) -> Result<(), Fail> {
     ];
     for found in cases {
         assert!(rt; is_sound(&rt, found)?);
-        refuses_all(&rt, found, Refusal::BadImage(6))?;
+        refuses_all(&rt, found, Refusal::BadImage(Rule::LogEntry))?;
     }
     Ok(())
 }

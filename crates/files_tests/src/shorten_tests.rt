@@ -1,7 +1,6 @@
-use crate::bench::{A, B};
+use crate::bench::{A, B, image_in};
 use crate::pattern::{check_read, fill};
 use image_check::refusal::Refusal;
-use media::byte_image::ByteImage;
 use memory::memory::Memory;
 use std::process::Abort;
 use std::test::Fail;
@@ -19,13 +18,11 @@ fn root_word(length: u32) -> u64 {
 // Shortens the file of 300 bytes and reads it back; only its root word is changed.
 fn shortens_to(rt: &impl Abort, length: u32) -> Result<(), Fail> {
     let mut bytes = [0; 1536];
-    let mut memory = ByteImage::new(&mut bytes);
-    assert!(rt; memory.restart());
+    let mut memory = image_in(rt, &mut bytes);
     fill(&mut memory)?;
     let mut expected = bytes;
     expected[600..608].copy_from_slice(&root_word(length).to_le_bytes());
-    let mut memory = ByteImage::new(&mut bytes);
-    assert!(rt; memory.restart());
+    let mut memory = image_in(rt, &mut bytes);
     assert_eq!(rt;
         shorten(&mut memory, B, length),
         Ok(()),
@@ -49,11 +46,9 @@ fn a_file_is_shortened_to_every_length(rt: HostRuntime) -> Result<(), Fail> {
 #[test]
 fn a_file_is_shortened_byte_by_byte(rt: HostRuntime) -> Result<(), Fail> {
     let mut bytes = [0; 1536];
-    let mut memory = ByteImage::new(&mut bytes);
-    assert!(rt; memory.restart());
+    let mut memory = image_in(&rt, &mut bytes);
     fill(&mut memory)?;
-    for by in 0..301u32 {
-        let length = 300 - by;
+    for length in (0..301u32).rev() {
         assert_eq!(rt; shorten(&mut memory, B, length), Ok(()));
         assert_eq!(rt; shorten(&mut memory, B, length + 1), Err(Refusal::TooLong));
         check_read(&rt, &mut memory, length, 240, 64);
@@ -65,12 +60,10 @@ fn a_file_is_shortened_byte_by_byte(rt: HostRuntime) -> Result<(), Fail> {
 #[test]
 fn a_file_is_not_made_longer(rt: HostRuntime) -> Result<(), Fail> {
     let mut bytes = [0; 1536];
-    let mut memory = ByteImage::new(&mut bytes);
-    assert!(rt; memory.restart());
+    let mut memory = image_in(&rt, &mut bytes);
     fill(&mut memory)?;
     let before = bytes;
-    let mut memory = ByteImage::new(&mut bytes);
-    assert!(rt; memory.restart());
+    let mut memory = image_in(&rt, &mut bytes);
     for length in [301, 302, 512, 8192, 8193, 0x0001_0000, u32::MAX] {
         assert_eq!(rt; shorten(&mut memory, B, length), Err(Refusal::TooLong));
         assert_eq!(rt; shorten(&mut memory, A, length), Err(Refusal::TooLong));

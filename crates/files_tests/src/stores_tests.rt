@@ -1,4 +1,4 @@
-use crate::bench::{A, B, C};
+use crate::bench::{A, B, C, image_in, store_words};
 use image_check::refusal::Refusal;
 use media::byte_image::ByteImage;
 use memory::memory::Memory;
@@ -15,13 +15,9 @@ fn back_again<M: Memory + Drop>(rt: &impl Abort, store: Ready<M>) -> Result<Read
 
 // Recovers a store in which no call was cut off.
 fn recovered<M: Memory + Drop>(rt: &impl Abort, store: Unread<M>) -> Result<Ready<M>, Fail> {
-    match store.recover() {
-        Ok((store, put)) => {
-            assert!(rt; !put);
-            Ok(store)
-        }
-        Err((_, refusal)) => Err(refusal.into()),
-    }
+    let (store, put) = store.recover().map_err(|(_, refusal)| refusal)?;
+    assert!(rt; !put);
+    Ok(store)
 }
 
 // Six blocks with one file, `A`, of three bytes.
@@ -71,11 +67,8 @@ fn files_outlast_a_restart(rt: HostRuntime) -> Result<(), Fail> {
 #[test]
 fn bytes_outlast_a_restart(rt: HostRuntime) -> Result<(), Fail> {
     let mut bytes = [0; 1536];
-    let mut memory = ByteImage::new(&mut bytes);
-    assert!(rt; memory.restart());
-    for word in IMAGE {
-        memory.store(word.0, word.1)?;
-    }
+    let mut memory = image_in(&rt, &mut bytes);
+    store_words(&mut memory, &IMAGE)?;
     let mut store = recovered(&rt, Unread::new(memory))?;
     reads(&rt, &mut store, A, Ok(3), *b"HI!\0\0\0\0\0");
     assert_eq!(rt; store.rename(A, C), Ok(()));

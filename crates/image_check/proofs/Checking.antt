@@ -1,5 +1,5 @@
 -- What the parts of the image check come to. Assumes nothing.
-use Rattle.std.proofs.Common.{◌≡◌, ℕ, ◌+◌, ◌*◌, ◌<◌, ◌≤◌, Bool, true, false, cond, not, eqb, get_or, IsErrAnd, Ok, Err, Decides, Result, sym, ap, ◌∙◌, subst, arith, below_more}
+use Rattle.std.proofs.Common.{◌≡◌, ℕ, ◌+◌, ◌*◌, ◌<◌, ◌≤◌, Bool, true, false, cond, not, eqb, IsErrAnd, Ok, Err, Decides, Result, sym, ap, ◌∙◌, subst, arith, below_more}
 use native.Mathlib.Decide.{ℕ_discrete}
 use Rattle.std.proofs.lemmas.Bool.Decides.{nat_tests}
 use Rattle.memory.specs.Model.{Model}
@@ -14,10 +14,10 @@ use Rattle.layout.specs.Touch.{blocks_for}
 use Rattle.layout.specs.declared.block_set.BlockSet.{BlockSet}
 use Rattle.images.proofs.Frame.{SameMaps, same_blocks, same-rules, same-sound, good-map}
 use Rattle.image_check.specs.Check.{Formed, Differ, Rooted, MapGood, Mapped, HasAll, Listed, Checked, Surveyed}
-use Rattle.image_check.specs.Directory.{Lists}
+use Rattle.image_check.specs.Directory.{Lists, slot_at}
 use Rattle.image_check.specs.Reading.{Looked, LookedDown}
 use Rattle.image_check.specs.declared.image.Survey.{Survey}
-use Rattle.image_check.specs.declared.reading.Directory.{Directory}
+use Rattle.image_check.specs.declared.directory.Directory.{Directory}
 use Rattle.image_check.specs.declared.refusal.Refusal.{Refusal}
 use Rattle.image_check.specs.declared.refusal.Refusal.TheVariants.{PowerLost}
 use Rattle.image_check.proofs.Looking.{looked-more, looked-down, refused-map}
@@ -30,34 +30,34 @@ is-named x ne = grind (arith, nat_tests)
 
 -- the rules of an image, from its directory as code holds it, and back
 module _ {w : Words} {d : Directory} (lists : Lists w d) where
-  held : (s : ℕ) → s < 16 → named w s ≡ true → get_or d.names s 0 ≡ 0 → ⊥
+  held : (s : ℕ) → s < 16 → named w s ≡ true → (slot_at d s).name ≡ 0 → ⊥
   held s lt h e = nonzero (name_word w s) h (sym (lists.names s lt) ∙ e)
 
-  named-held : (s : ℕ) → s < 16 → (get_or d.names s 0 ≡ 0 → ⊥) → named w s ≡ true
+  named-held : (s : ℕ) → s < 16 → ((slot_at d s).name ≡ 0 → ⊥) → named w s ≡ true
   named-held s lt ne = is-named (name_word w s) (λ e. ne (lists.names s lt ∙ e))
 
-  pub two_from : Formed d.names → Differ d.names → Rule2 w
+  pub two_from : Formed d → Differ d → Rule2 w
   two_from formed differ = record {
-    formed = λ s lt h. subst (λ x. well_formed (bytes_of x) ≡ true) (lists.names s lt) (formed s lt (held s lt h));
+    formed = λ s lt h. subst (λ x. well_formed (bytes_of x) ≡ true) (lists.names s lt) (formed s lt (held s lt h)).formed;
     differ = λ s u less lt h e. differ s (omega arith) (held s (omega arith) h) u less lt (ap bytes_of (lists.names s (omega arith)) ∙ e ∙ ap bytes_of (sym (lists.names u lt)));
   }
 
-  pub formed-from : Rule2 w → Formed d.names
-  formed-from two s lt ne = subst (λ x. well_formed (bytes_of x) ≡ true) (sym (lists.names s lt)) (two.formed s lt (named-held s lt ne))
+  pub formed-from : Rule2 w → Formed d
+  formed-from two s lt ne = record { formed = subst (λ x. well_formed (bytes_of x) ≡ true) (sym (lists.names s lt)) (two.formed s lt (named-held s lt ne)) }
 
-  pub differ-from : Rule2 w → Differ d.names
+  pub differ-from : Rule2 w → Differ d
   differ-from two s lt ne u less lt' e = two.differ s u less lt' (named-held s lt ne) (ap bytes_of (sym (lists.names s lt)) ∙ e ∙ ap bytes_of (lists.names u lt'))
 
-  pub three-from : (n : ℕ) → Rooted n d.names d.roots → Rule3 n w
+  pub three-from : (n : ℕ) → Rooted n d → Rule3 n w
   three-from n rooted s lt h = subst (GoodRoot n) (lists.roots s lt) (rooted s lt (held s lt h))
 
-  pub rooted-from : (n : ℕ) → Rule3 n w → Rooted n d.names d.roots
+  pub rooted-from : (n : ℕ) → Rule3 n w → Rooted n d
   rooted-from n three s lt ne = subst (GoodRoot n) (sym (lists.roots s lt)) (three s lt (named-held s lt ne))
 
-  pub four-from : (n : ℕ) → Mapped n w d.names d.roots → Rule4 n w
+  pub four-from : (n : ℕ) → Mapped n w d → Rule4 n w
   four-from n mapped s k lt h less = subst (λ root. (j : ℕ) → j < blocks_for (length_of root) → DataBlock n (in_block w (map_of root) j)) (lists.roots s lt) (mapped s lt (held s lt h)) k less
 
-  pub mapped-from : (n : ℕ) → Rule4 n w → Mapped n w d.names d.roots
+  pub mapped-from : (n : ℕ) → Rule4 n w → Mapped n w d
   mapped-from n four s lt ne = subst (λ root. MapGood n w (map_of root) (length_of root)) (sym (lists.roots s lt)) (λ k less. four s k lt (named-held s lt ne) less)
 
 -- what was loaded is so still
@@ -111,9 +111,9 @@ maps-alike n w v big same three = record {
   maps = λ s k lt h less. let good = good-map n (root_word w s) k (three s lt h) less in same (32 * map_of (root_word w s) + k) (omega (arith, good.0, good.1));
 }
 
-pub mapped-later : (n : ℕ) (w v : Words) (d : Directory) → Same n w v → Rooted n d.names d.roots → Mapped n w d.names d.roots → Mapped n v d.names d.roots
+pub mapped-later : (n : ℕ) (w v : Words) (d : Directory) → Same n w v → Rooted n d → Mapped n w d → Mapped n v d
 mapped-later n w v d same rooted mapped s lt ne k less =
-    let root = get_or d.roots s 0 in
+    let root = (slot_at d s).root in
     let good = good-map n root k (rooted s lt ne) less in
     subst (DataBlock n) (sym (same (32 * map_of root + k) (omega (arith, good.0, good.1)))) (mapped s lt ne k less)
 

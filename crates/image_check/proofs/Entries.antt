@@ -1,5 +1,5 @@
 -- The log entry of an image: its pieces, and the blocks of its file. Assumes nothing.
-use Rattle.std.proofs.Common.{◌≡◌, ℕ, zero, suc, ◌+◌, ◌*◌, ◌<◌, ◌≤◌, Bool, true, false, not, eqb, ◌⊎◌, List, [], ◌∷◌, ◌++◌, map, get_or, Ok, Err, Decides, Result, sym, refl, ap, ◌∙◌, subst, inl, inr, arith}
+use Rattle.std.proofs.Common.{◌≡◌, ℕ, zero, suc, ◌+◌, ◌*◌, ◌<◌, ◌≤◌, Bool, true, false, not, eqb, ◌⊎◌, List, [], ◌∷◌, ◌++◌, map, Ok, Err, Decides, Result, sym, refl, ap, ◌∙◌, subst, inl, inr, arith}
 use Rattle.std.proofs.lemmas.List.FromFn.{map-range_with_len_more}
 use Rattle.std.proofs.lemmas.Bool.{false≢true, cases_eq, eq-eqb, ne_eqb, not_from_false, both_ways, or_from, or_parts, or_left, or_right}
 use Rattle.std.specs.List.{range_with_len}
@@ -9,13 +9,14 @@ use Rattle.images.proofs.Lists.{map_same}
 use Rattle.layout.specs.Image.{in_block, map_of, length_of, file_blocks, named, name_word, root_word, GoodRoot}
 use Rattle.layout.specs.Lists.{member}
 use Rattle.layout.specs.Log.{state, log_slot, GoodPiece, Rule6}
+use Rattle.layout.specs.Packed.{state_number}
 use Rattle.layout.specs.Touch.{blocks_for}
 use Rattle.layout.specs.declared.log.LogState.{LogState}
 use Rattle.layout.specs.declared.log.LogState.TheVariants.{Free, Commit, Checkpoint}
 use Rattle.image_check.specs.Check.{PieceGood}
-use Rattle.image_check.specs.Directory.{Lists}
+use Rattle.image_check.specs.Directory.{Lists, slot_at}
 use Rattle.image_check.specs.Reading.{Looked, Reads}
-use Rattle.image_check.specs.declared.reading.Directory.{Directory}
+use Rattle.image_check.specs.declared.directory.Directory.{Directory}
 use Rattle.image_check.specs.declared.refusal.Refusal.{Refusal}
 use Rattle.image_check.proofs.Looking.{looked-more, looked-down}
 
@@ -87,34 +88,30 @@ pub good-root : (n root : ℕ) → 6 ≤ n → GoodRoot n root → (map_of root 
 good-root n root some (inl e) = (omega arith, omega arith)
 good-root n root some (inr h) = (h.1.1, h.3)
 
--- x is the number of a state
-abbrev Numbers : LogState → ℕ → Type 0
-Numbers s x = elim s [ Free ↦ x ≡ 0 | Commit ↦ x ≡ 1 | Checkpoint ↦ x ≡ 2 ]
-
 -- the number of one that is not free
-pub busy : (s : LogState) (x : ℕ) → (s ≡ Free → ⊥) → Numbers s x → (1 ≤ x) × (x ≤ 2)
+pub busy : (s : LogState) (x : ℕ) → (s ≡ Free → ⊥) → x ≡ state_number s → (1 ≤ x) × (x ≤ 2)
 busy Free x other h = absurd (other refl)
 busy Commit x other h = (omega arith, omega arith)
 busy Checkpoint x other h = (omega arith, omega arith)
 
 -- a directory's empty slot s
-empty-slot : (w : Words) (d : Directory) (s : ℕ) → Lists w d → s < 16 → get_or d.names s 0 ≡ 0 → named w s ≡ false
+empty-slot : (w : Words) (d : Directory) (s : ℕ) → Lists w d → s < 16 → (slot_at d s).name ≡ 0 → named w s ≡ false
 empty-slot w d s listed lt e = ap (λ x. not (eqb x 0)) (sym (listed.names s lt) ∙ e)
 
 -- and one with a name
-named-slot : (w : Words) (d : Directory) (s : ℕ) → Lists w d → s < 16 → (get_or d.names s 0 ≡ 0 → ⊥) → named w s ≡ true
+named-slot : (w : Words) (d : Directory) (s : ℕ) → Lists w d → s < 16 → ((slot_at d s).name ≡ 0 → ⊥) → named w s ≡ true
 named-slot w d s listed lt some = not_from_false (eqb (name_word w s) 0) (ne_eqb (name_word w s) 0 (λ e. some (listed.names s lt ∙ e)))
 
 -- an entry that is not free is not good where slot s, which it names, is none or empty
-pub no_slot : (w : Words) (d : Directory) (s : ℕ) → 1 ≤ state w → s ≡ log_slot w → Lists w d → (16 ≤ s) ⊎ ((s < 16) × (get_or d.names s 0 ≡ 0)) → Decides false (Rule6 w)
+pub no_slot : (w : Words) (d : Directory) (s : ℕ) → 1 ≤ state w → s ≡ log_slot w → Lists w d → (16 ≤ s) ⊎ ((s < 16) × ((slot_at d s).name ≡ 0)) → Decides false (Rule6 w)
 no_slot w d s some e listed none = (λ t. absurd (false≢true t), λ six. absurd (go none (six.entry (λ z. omega arith))))
   where
-    go : (16 ≤ s) ⊎ ((s < 16) × (get_or d.names s 0 ≡ 0)) → (log_slot w < 16) × (named w (log_slot w) ≡ true) × GoodPiece w (w 11) × GoodPiece w (w 12) → ⊥
+    go : (16 ≤ s) ⊎ ((s < 16) × ((slot_at d s).name ≡ 0)) → (log_slot w < 16) × (named w (log_slot w) ≡ true) × GoodPiece w (w 11) × GoodPiece w (w 12) → ⊥
     go (inl past) entry = omega (arith, entry.0)
     go (inr empty) entry = both_ways (named w s) (empty-slot w d s listed empty.0 empty.1) (subst (λ u. named w u ≡ true) (sym e) entry.1)
 
 -- where slot s has a name, it is good by its pieces
-pub by-pieces : (w : Words) (d : Directory) (s : ℕ) (b : Bool) → (1 ≤ state w) × (state w ≤ 2) → s ≡ log_slot w → Lists w d → s < 16 → (get_or d.names s 0 ≡ 0 → ⊥) → BothGood w (get_or d.roots s 0) b → Decides b (Rule6 w)
+pub by-pieces : (w : Words) (d : Directory) (s : ℕ) (b : Bool) → (1 ≤ state w) × (state w ≤ 2) → s ≡ log_slot w → Lists w d → s < 16 → ((slot_at d s).name ≡ 0 → ⊥) → BothGood w ((slot_at d s).root) b → Decides b (Rule6 w)
 by-pieces w d s b known e listed lt some h =
     let slot : log_slot w < 16 = omega arith in
     let name = subst (λ u. named w u ≡ true) e (named-slot w d s listed lt some) in

@@ -3,8 +3,11 @@ use Rattle.std.proofs.Common.{◌≡◌, ℕ, ◌+◌, ◌<◌, true, List, leng
 use Rattle.std.proofs.lemmas.List.Edits.{fill_by_more}
 use Rattle.memory.specs.Model.{Model, Fewer}
 use Rattle.memory.proofs.Putting.{up-down}
+use Rattle.memory.specs.Stores.{Words}
+use Rattle.image_check.specs.Directory.{slot_at, slot_of}
+use Rattle.image_check.specs.declared.directory.Slot.{Slot}
 use Rattle.image_check.specs.declared.refusal.Refusal.{Refusal}
-use Rattle.image_check.specs.Answers.{RefusedBy}
+use Rattle.image_check.specs.Answers.{RefusedBy, rule_number}
 use Rattle.image_check.specs.declared.refusal.Refusal.TheVariants.{PowerLost, BadImage, BadName, NoFile, NameTaken, TooManyFiles, TooLong, WrongSize}
 use Rattle.image_check.specs.Reading.{Looked, LookedDown, Reads}
 
@@ -37,10 +40,14 @@ reads_exit n P e (Err y) h p down = (down, h ∙ p)
 pub filled : (f : ℕ → ℕ) (xs : List ℕ) (i y : ℕ) → i < length xs → y ≡ f i → ((k : ℕ) → k < i → get_or xs k 0 ≡ f k) → (k : ℕ) → k < i + 1 → get_or (set xs i y) k 0 ≡ f k
 filled f xs i y lt e below k less = ap (λ v. get_or (set xs i v) k 0) e ∙ fill_by_more f xs i 0 lt below k less
 
+-- and one more slot
+pub slots-more : (w : Words) (xs : List Slot) (s : ℕ) (x : Slot) → s < length xs → x ≡ slot_of w s → ((k : ℕ) → k < s → slot_at (record { slots = xs }) k ≡ slot_of w k) → (k : ℕ) → k < s + 1 → slot_at (record { slots = set xs s x }) k ≡ slot_of w k
+slots-more w xs s x lt e below k less = ap (λ v. slot_at (record { slots = set xs s v }) k) e ∙ fill_by_more (slot_of w) xs s (record { name = 0; root = 0 }) lt below k less
+
 -- a refusal that says one thing says another that follows
 pub refused-map : (e : Refusal) {lost lost' : Type 0} {bad bad' : ℕ → Type 0} → (lost → lost') → ((k : ℕ) → bad k → bad' k) → RefusedBy e lost bad → RefusedBy e lost' bad'
 refused-map PowerLost f g h = f h
-refused-map (BadImage k) f g h = g k h
+refused-map (BadImage rule) f g h = g (rule_number rule) h
 refused-map BadName f g h = h
 refused-map NoFile f g h = h
 refused-map NameTaken f g h = h

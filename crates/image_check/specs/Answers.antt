@@ -1,7 +1,17 @@
--- The number of each refusal, and what refusals of the image say.
+-- The numbers of the image rules and of the refusals, and what refusals of the image say.
 use Rattle.std.specs.Prelude.{ℕ}
+use Rattle.image_check.specs.declared.refusal.Rule.{Rule}
+use Rattle.image_check.specs.declared.refusal.Rule.TheVariants.{BlockCount, Names, Roots, Maps, Blocks, LogEntry}
 use Rattle.image_check.specs.declared.refusal.Refusal.{Refusal}
 use Rattle.image_check.specs.declared.refusal.Refusal.TheVariants.{PowerLost, BadImage, BadName, NoFile, NameTaken, TooManyFiles, TooLong, WrongSize}
+
+abbrev pub rule_number : Rule → ℕ
+rule_number BlockCount = 1
+rule_number Names = 2
+rule_number Roots = 3
+rule_number Maps = 4
+rule_number Blocks = 5
+rule_number LogEntry = 6
 
 abbrev pub number : Refusal → ℕ
 number PowerLost = 1
@@ -16,7 +26,7 @@ number WrongSize = 9
 -- a call that looks at the image and refuses has lost power or found a rule that fails; it refuses for nothing else
 abbrev pub RefusedBy : Refusal → Type 0 → (ℕ → Type 0) → Type 0
 RefusedBy PowerLost lost bad = lost
-RefusedBy (BadImage rule) lost bad = bad rule
+RefusedBy (BadImage rule) lost bad = bad (rule_number rule)
 RefusedBy BadName lost bad = ⊥
 RefusedBy NoFile lost bad = ⊥
 RefusedBy NameTaken lost bad = ⊥

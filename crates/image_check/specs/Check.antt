@@ -1,5 +1,5 @@
 -- The parts of the image check, over words as code holds them.
-use Rattle.std.specs.Prelude.{◌≡◌, ℕ, ◌+◌, ◌/◌, ◌<◌, ◌≤◌, Bool, true, false, ◌⊎◌, List, ◌++◌, Ok, Err, Result, ◌≢◌, slice_index}
+use Rattle.std.specs.Prelude.{◌≡◌, ℕ, ◌+◌, ◌/◌, ◌<◌, ◌≤◌, Bool, true, false, ◌⊎◌, List, ◌++◌, Ok, Err, Result, ◌≢◌}
 use Rattle.memory.specs.Bytes.{bytes_of}
 use Rattle.memory.specs.Model.{Model}
 use Rattle.memory.specs.Stores.{Words}
@@ -11,37 +11,50 @@ use Rattle.layout.specs.Names.{well_formed}
 use Rattle.layout.specs.Touch.{blocks_for}
 use Rattle.layout.specs.declared.block_set.BlockSet.{BlockSet}
 use Rattle.image_check.specs.Answers.{RefusedBy}
-use Rattle.image_check.specs.Directory.{Lists}
+use Rattle.image_check.specs.Directory.{Lists, slot_at}
 use Rattle.image_check.specs.Size.{suits}
 use Rattle.image_check.specs.Reading.{Looked, LookedDown}
 use Rattle.image_check.specs.declared.image.Survey.{Survey}
-use Rattle.image_check.specs.declared.reading.Directory.{Directory}
+use Rattle.image_check.specs.declared.directory.Directory.{Directory}
+use Rattle.image_check.specs.declared.directory.Slot.{Slot}
 use Rattle.image_check.specs.declared.refusal.Refusal.{Refusal}
 use Rattle.image_check.specs.declared.refusal.Refusal.TheVariants.{WrongSize}
 
--- each name is well formed
-abbrev pub Formed : List ℕ → Type 0
-Formed names = (s : ℕ) → s < 16 → (slice_index names s ≢ 0) → well_formed (bytes_of (slice_index names s)) ≡ true
+-- the bytes of a name word are well formed
+pub record GoodName (word : ℕ) : Type 0 where
+  pub formed : well_formed (bytes_of word) ≡ true
+
+-- a slot is empty, or its name is well formed
+abbrev pub NameGood : Slot → Type 0
+NameGood s = (s.name ≢ 0) → GoodName s.name
+
+-- so for each slot
+abbrev pub Formed : Directory → Type 0
+Formed d = (s : ℕ) → s < 16 → NameGood (slot_at d s)
 
 -- the name in slot s stands in no later one
-abbrev pub Single : List ℕ → ℕ → Type 0
-Single names s = (u : ℕ) → s < u → u < 16 → bytes_of (slice_index names s) ≢ bytes_of (slice_index names u)
+abbrev pub Single : Directory → ℕ → Type 0
+Single d s = (u : ℕ) → s < u → u < 16 → bytes_of (slot_at d s).name ≢ bytes_of (slot_at d u).name
 
 -- no name stands twice
-abbrev pub Differ : List ℕ → Type 0
-Differ names = (s : ℕ) → s < 16 → (slice_index names s ≢ 0) → Single names s
+abbrev pub Differ : Directory → Type 0
+Differ d = (s : ℕ) → s < 16 → ((slot_at d s).name ≢ 0) → Single d s
 
--- each named slot has a good root word
-abbrev pub Rooted : ℕ → List ℕ → List ℕ → Type 0
-Rooted n names roots = (s : ℕ) → s < 16 → (slice_index names s ≢ 0) → GoodRoot n (slice_index roots s)
+-- a slot is empty, or its root word is good
+abbrev pub RootGood : ℕ → Slot → Type 0
+RootGood n s = (s.name ≢ 0) → GoodRoot n s.root
+
+-- so for each slot
+abbrev pub Rooted : ℕ → Directory → Type 0
+Rooted n d = (s : ℕ) → s < 16 → RootGood n (slot_at d s)
 
 -- the map words that count, of a map in block b for a file of that length, are data blocks
 abbrev pub MapGood : ℕ → Words → ℕ → ℕ → Type 0
 MapGood n w b len = (k : ℕ) → k < blocks_for len → DataBlock n (in_block w b k)
 
 -- so for each named slot
-abbrev pub Mapped : ℕ → Words → List ℕ → List ℕ → Type 0
-Mapped n w names roots = (s : ℕ) → s < 16 → (slice_index names s ≢ 0) → MapGood n w (map_of (slice_index roots s)) (length_of (slice_index roots s))
+abbrev pub Mapped : ℕ → Words → Directory → Type 0
+Mapped n w d = (s : ℕ) → s < 16 → ((slot_at d s).name ≢ 0) → MapGood n w (map_of (slot_at d s).root) (length_of (slot_at d s).root)
 
 -- a set holds the blocks of a list
 abbrev pub HasAll : BlockSet → List ℕ → Type 0

@@ -1,45 +1,21 @@
-ghost use Rattle.std.specs.Prelude.{◌≡◌, ℕ, ◌<◌, length, Decides};
+ghost use Rattle.std.specs.Prelude.{◌≡◌, ◌<◌, Decides};
 ghost use Rattle.layout.specs.Image.{GoodRoot};
-ghost use Rattle.image_check.specs.Check.{Formed, Single, Differ, Rooted};
+ghost use Rattle.image_check.specs.Check.{NameGood, RootGood, Formed, Single, Differ, Rooted};
 
 use layout::name::{is_well_formed, name_bytes};
 use layout::root::Root;
 
-// Whether each name is well formed.
-pub(crate) fn names_formed(names: &[u64; 16]) -> bool
-    ensures { Decides result (Formed names.now) }
-{
-    for s in 0..16usize {
-        if names[s] != 0 && !is_well_formed(&name_bytes(names[s])) {
-            return false;
-        }
-    }
-    true
+// The two words of a slot; one whose name word is zero is empty.
+#[derive(Clone, Copy, PartialEq, Eq, Debug)]
+pub struct Slot {
+    pub name: u64,
+    pub root: u64,
 }
 
-// Whether the name in a slot stands in no later slot.
-fn name_is_single(names: &[u64; 16], s: usize) -> bool
-    requires { s < 16 }
-    ensures { Decides result (Single names.now s) }
-{
-    for u in s + 1..16 {
-        if names[u] == names[s] {
-            return false;
-        }
-    }
-    true
-}
-
-// Whether no name stands twice.
-pub(crate) fn names_differ(names: &[u64; 16]) -> bool
-    ensures { Decides result (Differ names.now) }
-{
-    for s in 0..16usize {
-        if names[s] != 0 && !name_is_single(names, s) {
-            return false;
-        }
-    }
-    true
+// The words of the sixteen slots.
+#[derive(Clone, Copy, PartialEq, Eq, Debug)]
+pub struct Directory {
+    pub slots: [Slot; 16],
 }
 
 // Whether a root word is zero, or has a map among the data blocks and a length.
@@ -49,19 +25,70 @@ fn root_is_good(word: u64, blocks: u64) -> bool
     if word == 0 {
         return true;
     }
-    let root = Root::from_word(word);
+    let root = Root::from(word);
     let map = u64::from(root.map);
     word >> 16 & 0xffff == 0 && 3 <= map && map < blocks && 1 <= root.length && root.length <= 8192
 }
 
-// Whether each named slot has a good root word.
-pub(crate) fn roots_good(names: &[u64; 16], roots: &[u64; 16], blocks: u64) -> bool
-    ensures { Decides result (Rooted blocks names.now roots.now) }
-{
-    for s in 0..16usize {
-        if names[s] != 0 && !root_is_good(roots[s], blocks) {
-            return false;
-        }
+impl Slot {
+    // Whether the slot is empty, or its name is well formed.
+    fn has_good_name(&self) -> bool
+        ensures { Decides result (NameGood self.now) }
+    {
+        self.name == 0 || is_well_formed(&name_bytes(self.name))
     }
-    true
+
+    // Whether the slot is empty, or its root word is good.
+    fn has_good_root(&self, blocks: u64) -> bool
+        ensures { Decides result (RootGood blocks self.now) }
+    {
+        self.name == 0 || root_is_good(self.root, blocks)
+    }
+}
+
+impl Directory {
+    // Whether each name is well formed.
+    pub(crate) fn names_formed(&self) -> bool
+        ensures { Decides result (Formed self.now) }
+    {
+        for slot in &self.slots {
+            if !slot.has_good_name() {
+                return false;
+            }
+        }
+        true
+    }
+
+    // Whether the name in a slot stands in no later slot.
+    fn name_is_single(&self, s: usize) -> bool
+        requires { s < 16 }
+        ensures { Decides result (Single self.now s) }
+    {
+        let name = self.slots[s].name;
+        for later in &self.slots[s + 1..] {
+            if later.name == name {
+                return false;
+            }
+        }
+        true
+    }
+
+    // Whether no name stands twice.
+    pub(crate) fn names_differ(&self) -> bool
+        ensures { Decides result (Differ self.now) }
+    {
+        for (s, slot) in self.slots.iter().enumerate() {
+            if slot.name != 0 && !self.name_is_single(s) {
+                return false;
+            }
+        }
+        true
+    }
+
+    // Whether each named slot has a good root word.
+    pub(crate) fn roots_good(&self, blocks: u64) -> bool
+        ensures { Decides result (Rooted blocks self.now) }
+    {
+        self.slots.iter().all(|slot| slot.has_good_root(blocks))
+    }
 }

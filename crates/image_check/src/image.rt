@@ -3,13 +3,14 @@ ghost use Rattle.layout.specs.Image.{Rule1, Rule2, Rule3};
 ghost use Rattle.image_check.specs.Check.{Listed, Checked, Checks, Surveys};
 ghost use Rattle.image_check.specs.Directory.{Lists};
 
-use crate::directory::{names_differ, names_formed, roots_good};
+use crate::directory::Directory;
 use crate::entry::entry_is_good;
 use crate::maps::{maps_good, used_blocks};
-use crate::reading::{Directory, load_directory, load_word};
-use crate::refusal::Refusal;
+use crate::reading::{load_directory, load_word};
+use crate::refusal::{Refusal, Rule};
 use crate::size::blocks_in;
 use layout::block_set::BlockSet;
+use layout::place::BLOCK_COUNT;
 use memory::memory::Memory;
 
 // What the check finds in a sound image: the words of the slots, and the blocks in use.
@@ -26,18 +27,18 @@ fn check_directory<M: Memory>(memory: &mut M, blocks: u64) -> Result<Directory, 
     ensures listed { Listed blocks (M.Memory.model memory.old) result (M.Memory.model memory.new) }
     ensures lent { M.Memory.lent memory.new ≡ M.Memory.lent memory.old }
 {
-    if load_word(memory, 0)? != blocks {
-        return Err(Refusal::BadImage(1));
+    if load_word(memory, BLOCK_COUNT)? != blocks {
+        return Err(Refusal::BadImage(Rule::BlockCount));
     }
     let directory = load_directory(memory)?;
-    if !names_formed(&directory.names) {
-        return Err(Refusal::BadImage(2));
+    if !directory.names_formed() {
+        return Err(Refusal::BadImage(Rule::Names));
     }
-    if !names_differ(&directory.names) {
-        return Err(Refusal::BadImage(2));
+    if !directory.names_differ() {
+        return Err(Refusal::BadImage(Rule::Names));
     }
-    if !roots_good(&directory.names, &directory.roots, blocks) {
-        return Err(Refusal::BadImage(3));
+    if !directory.roots_good(blocks) {
+        return Err(Refusal::BadImage(Rule::Roots));
     }
     Ok(directory)
 }
@@ -60,13 +61,13 @@ fn check_blocks<M: Memory>(
     ensures lent { M.Memory.lent memory.new ≡ M.Memory.lent memory.old }
 {
     if !maps_good(memory, directory, blocks)? {
-        return Err(Refusal::BadImage(4));
+        return Err(Refusal::BadImage(Rule::Maps));
     }
     let Some(used) = used_blocks(memory, directory, blocks)? else {
-        return Err(Refusal::BadImage(5));
+        return Err(Refusal::BadImage(Rule::Blocks));
     };
     if !entry_is_good(memory, directory, blocks)? {
-        return Err(Refusal::BadImage(6));
+        return Err(Refusal::BadImage(Rule::LogEntry));
     }
     Ok(used)
 }
@@ -89,8 +90,5 @@ pub fn check_image<M: Memory>(memory: &mut M) -> Result<BlockSet, Refusal>
     ensures checks { Checks (M.Memory.model memory.old) result (M.Memory.model memory.new) }
     ensures lent { M.Memory.lent memory.new ≡ M.Memory.lent memory.old }
 {
-    match survey_image(memory) {
-        Ok(survey) => Ok(survey.used),
-        Err(refusal) => Err(refusal),
-    }
+    Ok(survey_image(memory)?.used)
 }

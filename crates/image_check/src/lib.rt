@@ -1,10 +1,11 @@
 // Reading an image from any memory, and the check that finds the first rule that fails.
 #![tactic(auto)]
 
-mod directory;
+pub mod directory;
 mod entry;
+mod file;
 pub mod image;
 mod maps;
-pub mod reading;
+mod reading;
 pub mod refusal;
 pub mod size;

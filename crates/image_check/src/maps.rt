@@ -4,32 +4,25 @@ ghost use Rattle.image_check.specs.Check.{Rooted, MapGood, Mapped, HasAll, Added
 ghost use Rattle.image_check.specs.Directory.{Lists};
 ghost use Rattle.image_check.specs.Reading.{Reads};
 
-use crate::reading::{Directory, load_word};
+use crate::directory::Directory;
+use crate::file::File;
+use crate::reading::load_word;
 use crate::refusal::Refusal;
 use layout::block_set::BlockSet;
-use layout::root::Root;
+use layout::place::BLOCK_WORDS;
 use memory::memory::Memory;
 
-// The blocks that hold a file of that length.
-pub(crate) fn blocks_for(length: u32) -> u64
-    ensures { result ≡ (length + 255) / 256 }
-{
-    (u64::from(length) + 255) / 256
-}
-
 // Whether the map words that count are data blocks, in a memory of so many blocks that is up.
-fn map_is_good<M: Memory>(memory: &mut M, root: Root, blocks: u64) -> Result<bool, Refusal>
+fn map_is_good<M: Memory>(memory: &mut M, file: File) -> Result<bool, Refusal>
     requires up { (M.Memory.model memory.old).up ≡ true }
-    requires size { 32 * blocks ≤ (M.Memory.model memory.old).count }
-    requires map { root.map < blocks }
-    requires length { root.length ≤ 8192 }
-    ensures reads { Reads (M.Memory.model memory.old) (λ b. Decides b (MapGood blocks (M.Memory.model memory.old).seen root.map root.length)) result (M.Memory.model memory.new) }
+    requires size { 32 * file.blocks ≤ (M.Memory.model memory.old).count }
+    ensures reads { Reads (M.Memory.model memory.old) (λ b. Decides b (MapGood file.blocks (M.Memory.model memory.old).seen (map_of file.root) (length_of file.root))) result (M.Memory.model memory.new) }
     ensures lent { M.Memory.lent memory.new ≡ M.Memory.lent memory.old }
 {
-    let map = u64::from(root.map);
-    for k in 0..blocks_for(root.length) {
-        let block = load_word(memory, 32 * map + k)?;
-        if block < 3 || block >= blocks {
+    let map = BLOCK_WORDS * file.map();
+    for k in 0..file.length_in_blocks() {
+        let block = load_word(memory, map + k)?;
+        if block < 3 || block >= file.blocks {
             return Ok(false);
         }
     }
@@ -45,44 +38,34 @@ pub(crate) fn maps_good<M: Memory>(
     requires up { (M.Memory.model memory.old).up ≡ true }
     requires size { 32 * blocks ≤ (M.Memory.model memory.old).count }
     requires some { 6 ≤ blocks }
-    requires roots { Rooted blocks directory.now.names directory.now.roots }
-    ensures reads { Reads (M.Memory.model memory.old) (λ b. Decides b (Mapped blocks (M.Memory.model memory.old).seen directory.now.names directory.now.roots)) result (M.Memory.model memory.new) }
+    requires roots { Rooted blocks directory.now }
+    ensures reads { Reads (M.Memory.model memory.old) (λ b. Decides b (Mapped blocks (M.Memory.model memory.old).seen directory.now)) result (M.Memory.model memory.new) }
     ensures lent { M.Memory.lent memory.new ≡ M.Memory.lent memory.old }
 {
-    for s in 0..16usize {
-        if directory.names[s] != 0 {
-            let root = Root::from_word(directory.roots[s]);
-            if !map_is_good(memory, root, blocks)? {
-                return Ok(false);
-            }
+    for slot in &directory.slots {
+        let root = slot.root;
+        if slot.name != 0 && !map_is_good(memory, File { root, blocks })? {
+            return Ok(false);
         }
     }
     Ok(true)
 }
 
 // Puts the map and the file blocks of a file that is not empty into a set, and answers whether all were new.
-fn add_blocks<M: Memory>(
-    memory: &mut M,
-    set: &mut BlockSet,
-    word: u64,
-    blocks: u64,
-) -> Result<bool, Refusal>
+fn add_blocks<M: Memory>(memory: &mut M, set: &mut BlockSet, file: File) -> Result<bool, Refusal>
     requires up { (M.Memory.model memory.old).up ≡ true }
-    requires size { 32 * blocks ≤ (M.Memory.model memory.old).count }
-    requires few { blocks ≤ 4096 }
-    requires map { map_of word < blocks }
-    requires length { length_of word ≤ 8192 }
-    requires good { MapGood blocks (M.Memory.model memory.old).seen (map_of word) (length_of word) }
-    ensures reads { (before : List ℕ) → HasAll set.old before → Reads (M.Memory.model memory.old) (λ b. Added before (map_of word ∷ file_blocks (M.Memory.model memory.old).seen word) b set.new) result (M.Memory.model memory.new) }
+    requires size { 32 * file.blocks ≤ (M.Memory.model memory.old).count }
+    requires few { file.blocks ≤ 4096 }
+    requires good { MapGood file.blocks (M.Memory.model memory.old).seen (map_of file.root) (length_of file.root) }
+    ensures reads { (before : List ℕ) → HasAll set.old before → Reads (M.Memory.model memory.old) (λ b. Added before (map_of file.root ∷ file_blocks (M.Memory.model memory.old).seen file.root) b set.new) result (M.Memory.model memory.new) }
     ensures lent { M.Memory.lent memory.new ≡ M.Memory.lent memory.old }
 {
-    let root = Root::from_word(word);
-    let map = u64::from(root.map);
+    let map = file.map();
     if !set.insert(map) {
         return Ok(false);
     }
-    for k in 0..blocks_for(root.length) {
-        let block = load_word(memory, 32 * map + k)?;
+    for k in 0..file.length_in_blocks() {
+        let block = load_word(memory, BLOCK_WORDS * map + k)?;
         if !set.insert(block) {
             return Ok(false);
         }
@@ -101,17 +84,15 @@ pub(crate) fn used_blocks<M: Memory>(
     requires some { 6 ≤ blocks }
     requires few { blocks ≤ 4096 }
     requires listed { Lists (M.Memory.model memory.old).seen directory.now }
-    requires roots { Rooted blocks directory.now.names directory.now.roots }
-    requires maps { Mapped blocks (M.Memory.model memory.old).seen directory.now.names directory.now.roots }
+    requires roots { Rooted blocks directory.now }
+    requires maps { Mapped blocks (M.Memory.model memory.old).seen directory.now }
     ensures reads { Reads (M.Memory.model memory.old) (λ found. MatchOption found (Rule5 (M.Memory.model memory.old).seen → ⊥) (λ set. Rule5 (M.Memory.model memory.old).seen × HasAll set (used_blocks (M.Memory.model memory.old).seen))) result (M.Memory.model memory.new) }
     ensures lent { M.Memory.lent memory.new ≡ M.Memory.lent memory.old }
 {
     let mut set = BlockSet::new();
-    for s in 0..16usize {
-        if directory.names[s] != 0
-            && directory.roots[s] != 0
-            && !add_blocks(memory, &mut set, directory.roots[s], blocks)?
-        {
+    for slot in &directory.slots {
+        let root = slot.root;
+        if slot.name != 0 && root != 0 && !add_blocks(memory, &mut set, File { root, blocks })? {
             return Ok(None);
         }
     }

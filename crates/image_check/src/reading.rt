@@ -1,9 +1,10 @@
 ghost use Rattle.std.specs.Prelude.{◌≡◌, ℕ, ◌<◌, ◌≤◌, true};
-ghost use Rattle.layout.specs.Image.{name_word, root_word};
 ghost use Rattle.image_check.specs.Reading.{Reads};
-ghost use Rattle.image_check.specs.Directory.{Lists};
+ghost use Rattle.image_check.specs.Directory.{Lists, slot_of};
 
+use crate::directory::{Directory, Slot};
 use crate::refusal::Refusal;
+use layout::place::SLOTS;
 use memory::memory::Memory;
 
 // The value seen in a word of the memory.
@@ -12,17 +13,21 @@ pub(crate) fn load_word<M: Memory>(memory: &mut M, at: u64) -> Result<u64, Refus
     ensures reads { Reads (M.Memory.model memory.old) (λ v. v ≡ (M.Memory.model memory.old).seen at) result (M.Memory.model memory.new) }
     ensures lent { M.Memory.lent memory.new ≡ M.Memory.lent memory.old }
 {
-    match memory.load(at) {
-        Ok(value) => Ok(value),
-        Err(_) => Err(Refusal::PowerLost),
-    }
+    Ok(memory.load(at)?)
 }
 
-// The words of the sixteen slots.
-#[derive(Clone, Copy)]
-pub struct Directory {
-    pub names: [u64; 16],
-    pub roots: [u64; 16],
+// Loads the two words of a slot.
+fn load_slot<M: Memory>(memory: &mut M, s: usize) -> Result<Slot, Refusal>
+    requires up { (M.Memory.model memory.old).up ≡ true }
+    requires inside { 96 ≤ (M.Memory.model memory.old).count }
+    requires slot { s < 16 }
+    ensures reads { Reads (M.Memory.model memory.old) (λ slot. slot ≡ slot_of (M.Memory.model memory.old).seen s) result (M.Memory.model memory.new) }
+    ensures lent { M.Memory.lent memory.new ≡ M.Memory.lent memory.old }
+{
+    let at = SLOTS + 2 * s as u64;
+    let name = load_word(memory, at)?;
+    let root = load_word(memory, at + 1)?;
+    Ok(Slot { name, root })
 }
 
 // Loads the directory of a memory that is up.
@@ -32,11 +37,9 @@ pub(crate) fn load_directory<M: Memory>(memory: &mut M) -> Result<Directory, Ref
     ensures reads { Reads (M.Memory.model memory.old) (Lists (M.Memory.model memory.old).seen) result (M.Memory.model memory.new) }
     ensures lent { M.Memory.lent memory.new ≡ M.Memory.lent memory.old }
 {
-    let mut names = [0; 16];
-    let mut roots = [0; 16];
-    for s in 0..16usize {
-        names[s] = load_word(memory, 64 + 2 * s as u64)?;
-        roots[s] = load_word(memory, 65 + 2 * s as u64)?;
+    let mut slots = [Slot { name: 0, root: 0 }; 16];
+    for (s, slot) in slots.iter_mut().enumerate() {
+        *slot = load_slot(memory, s)?;
     }
-    Ok(Directory { names, roots })
+    Ok(Directory { slots })
 }

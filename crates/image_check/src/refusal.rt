@@ -1,5 +1,25 @@
 ghost use Rattle.std.specs.Prelude.{◌≡◌};
-ghost use Rattle.image_check.specs.Answers.{number};
+ghost use Rattle.image_check.specs.Answers.{number, rule_number};
+ghost use Rattle.image_check.specs.declared.refusal.Refusal.TheVariants.{PowerLost};
+
+use memory::fault::Fault;
+
+// A rule of the image, in the order in which they are tried.
+#[derive(Clone, Copy, PartialEq, Eq, Debug)]
+pub enum Rule {
+    // word 0 is the count of blocks
+    BlockCount,
+    // names are well formed and differ
+    Names,
+    // a named slot has a good root word
+    Roots,
+    // map words are data blocks
+    Maps,
+    // no block is used twice
+    Blocks,
+    // the log entry is good
+    LogEntry,
+}
 
 // Why a call was not done.
 #[derive(Clone, Copy, PartialEq, Eq, Debug)]
@@ -7,7 +27,7 @@ pub enum Refusal {
     // power was lost
     PowerLost,
     // the first image rule that fails
-    BadImage(u8),
+    BadImage(Rule),
     // a name is not well formed
     BadName,
     // no file has the name
@@ -22,12 +42,28 @@ pub enum Refusal {
     WrongSize,
 }
 
-impl Refusal {
-    // The number that stands for the refusal.
-    pub fn number(&self) -> u8
-        ensures { result ≡ number self.now }
-    {
-        match self {
+// The number of the rule.
+impl From<Rule> for u8 {
+    ghost from_gives = { λ rule n. n ≡ rule_number rule };
+
+    fn from(rule: Rule) -> u8 {
+        match rule {
+            Rule::BlockCount => 1,
+            Rule::Names => 2,
+            Rule::Roots => 3,
+            Rule::Maps => 4,
+            Rule::Blocks => 5,
+            Rule::LogEntry => 6,
+        }
+    }
+}
+
+// The number that stands for the refusal.
+impl From<Refusal> for u8 {
+    ghost from_gives = { λ refusal n. n ≡ number refusal };
+
+    fn from(refusal: Refusal) -> u8 {
+        match refusal {
             Refusal::PowerLost => 1,
             Refusal::BadImage(_) => 2,
             Refusal::BadName => 3,
@@ -36,6 +72,17 @@ impl Refusal {
             Refusal::TooManyFiles => 6,
             Refusal::TooLong => 7,
             Refusal::WrongSize => 9,
+        }
+    }
+}
+
+// A call asks for no place outside the memory, so a fault tells it that power was lost.
+impl From<Fault> for Refusal {
+    ghost from_gives = { λ fault refusal. refusal ≡ PowerLost };
+
+    fn from(fault: Fault) -> Refusal {
+        match fault {
+            Fault::Down | Fault::Outside => Refusal::PowerLost,
         }
     }
 }

@@ -1,5 +1,5 @@
 -- What a layer asks of the memory below: by whether there is power, and whether the place is inside. Assumes nothing.
-use Rattle.std.proofs.Common.{◌≡◌, ℕ, ◌<◌, true, List, Some, None, Ok, Err, Result, sym, refl, subst, arith}
+use Rattle.std.proofs.Common.{◌≡◌, ℕ, ◌<◌, true, List, Some, None, Ok, Result, sym, refl, subst, arith}
 use Rattle.memory.specs.Model.{Model, Flushed}
 use Rattle.memory.specs.declared.fault.Fault.{Fault}
 use Rattle.memory.specs.declared.word.Word.{Word}
@@ -28,8 +28,5 @@ module _ {B : Type 0} (m : Model) (ws : List Word) (b : B) (i : ℕ) (up : true 
       does m i b c up lt (λ o other. let same : s ≡ o = cc in (a, subst (λ (x : Word). asked x a) same h, is), λ none. let z : ◌≡◌ {A = ℕ} 0 1 = cc in absurd (omega arith))
 
 module _ {B : Type 0} (model : B → Model) (ws : List Word) (b : B) (up : true ≡ (model b).up) (k : B) where
-  pub flush-cut : (f : Fault) → StoredAll (model b) ws (Err f) (model k) → CacheFlushes model ws b (Err f) k
-  flush-cut f h = (λ _. (Err f, k, h, (refl, refl)), λ down. absurd (up-down (model b).up (sym up) down))
-
   pub then-flushes : (r : Result Unit Fault) (c : B) → StoredAll (model b) ws (Ok tt) (model k) → Flushed (model k) r (model c) → CacheFlushes model ws b r c
   then-flushes r c all h = (λ _. (Ok tt, k, all, h), λ down. absurd (up-down (model b).up (sym up) down))

@@ -136,9 +136,6 @@ then-stored {a} {b} {c} {i} {v} up seen fewer h =
 pub cache-store-room : (ws next : List Word) (m : Model) (i v : ℕ) → true ≡ m.up → i < m.count → None ≡ leaving ws i → next ≡ holding ws i v → Stored (cache_model ws m) i v (Ok tt) (cache_model next m)
 cache-store-room ws next m i v up lt none is = wait-stored m (sym up) lt (subst (Held ws i v) (sym is) (held ws i v (sym none)))
 
-pub leaves-some : (ws : List Word) (i : ℕ) (s : Word) → Some s ≡ leaving ws i → leaving ws i ≡ None → ⊥
-leaves-some ws i s some none = let z : ◌≡◌ {A = ℕ} 0 1 = cc in omega arith
-
 -- the oldest word went below, and power was lost there or was not
 module _ (ws : List Word) (m n : Model) (i v : ℕ) (s : Word) (q : Result Unit Fault) (up : true ≡ m.up) (lt : i < m.count) (some : Some s ≡ leaving ws i) (below : Stored m s.at s.value q n) where
   rest : (xs : List Word) × (ws ≡ s ∷ xs) × (holding ws i v ≡ xs ++ word i v ∷ [])

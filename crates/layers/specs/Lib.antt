@@ -1,3 +1,4 @@
+pub mod Admitted
 pub mod Below
 pub mod Cached
 pub mod Layers

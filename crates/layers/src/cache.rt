@@ -6,6 +6,7 @@ ghost use Rattle.layers.specs.Cached.{cached};
 ghost use Rattle.layers.specs.Layers.{cache-seen-may};
 ghost use Rattle.layers.specs.StoredAll.{StoredAll};
 
+use crate::admit::admit;
 use crate::outside::unless_outside;
 use memory::cut_point::CutPoint;
 use memory::fault::Fault;
@@ -66,12 +67,7 @@ impl<M: Memory> Memory for Cache<M> {
         ensures waits { waiting self.new.waiting ≡ waiting self.old.waiting }
         ensures below { CacheLoads M.Memory.model (waiting self.old.waiting) self.old.below at result self.new.below }
     {
-        if !self.below.is_up() {
-            return Err(Fault::Down);
-        }
-        if at >= self.below.count() {
-            return Err(Fault::Outside);
-        }
+        admit(self.is_up(), at, self.count())?;
         match self.waiting.value(at) {
             Some(value) => Ok(value),
             None => self.below.load(at),
@@ -86,19 +82,11 @@ impl<M: Memory> Memory for Cache<M> {
         ensures below { leaving (waiting self.old.waiting) at ≡ None → self.new.below ≡ self.old.below }
         ensures oldest { CacheStores M.Memory.model (waiting self.old.waiting) self.old.below at result self.new.below }
     {
-        if !self.below.is_up() {
-            return Err(Fault::Down);
+        admit(self.is_up(), at, self.count())?;
+        if let Some(oldest) = self.waiting.leaving(at) {
+            unless_outside(self.below.store(oldest.at, oldest.value))?;
         }
-        if at >= self.below.count() {
-            return Err(Fault::Outside);
-        }
-        match self.waiting.leaving(at) {
-            None => self.waiting.hold(at, value),
-            Some(oldest) => {
-                unless_outside(self.below.store(oldest.at, oldest.value))?;
-                self.waiting.hold(at, value);
-            }
-        }
+        self.waiting.hold(at, value);
         Ok(())
     }
 

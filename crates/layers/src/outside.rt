@@ -8,8 +8,7 @@ pub fn unless_outside(stored: Result<(), Fault>) -> Result<(), Fault>
     ensures { result ≡ unless_outside stored }
 {
     match stored {
-        Ok(()) => Ok(()),
-        Err(Fault::Outside) => Ok(()),
+        Ok(()) | Err(Fault::Outside) => Ok(()),
         Err(Fault::Down) => Err(Fault::Down),
     }
 }

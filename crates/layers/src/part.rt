@@ -4,6 +4,7 @@ ghost use Rattle.layers.specs.Below.{PartLoads, PartStores};
 ghost use Rattle.layers.specs.Layers.{part_model, part-seen-may};
 ghost use Rattle.layers.specs.PartOf.{part_of};
 
+use crate::admit::admit;
 use memory::cut_point::CutPoint;
 use memory::fault::Fault;
 use memory::memory::Memory;
@@ -61,12 +62,8 @@ impl<M: Memory> Memory for Part<M> {
         ensures run { self.new.run ≡ self.old.run }
         ensures below { PartLoads M.Memory.model self.old.run self.old.below at result self.new.below }
     {
-        if !self.below.is_up() {
-            return Err(Fault::Down);
-        }
-        if at >= self.run.inside(self.below.count()) {
-            return Err(Fault::Outside);
-        }
+        let count = self.run.inside(self.below.count());
+        admit(self.is_up(), at, count)?;
         self.below.load(self.run.first + at)
     }
 
@@ -76,12 +73,8 @@ impl<M: Memory> Memory for Part<M> {
         ensures run { self.new.run ≡ self.old.run }
         ensures below { PartStores M.Memory.model self.old.run self.old.below at value result self.new.below }
     {
-        if !self.below.is_up() {
-            return Err(Fault::Down);
-        }
-        if at >= self.run.inside(self.below.count()) {
-            return Err(Fault::Outside);
-        }
+        let count = self.run.inside(self.below.count());
+        admit(self.is_up(), at, count)?;
         self.below.store(self.run.first + at, value)
     }
 

@@ -1,7 +1,7 @@
+use crate::steps::store_across_restart;
 use layers::cache::Cache;
 use layers::part::{Part, Run};
 use media::byte_image::ByteImage;
-use memory::fault::Fault;
 use memory::memory::Memory;
 use std::process::Abort;
 
@@ -32,20 +32,11 @@ fn the_ninth_word_sends_the_oldest_below(rt: HostRuntime) {
     assert_eq!(rt; bytes, [0; 80]);
 }
 
-// Stores 7 in word 1 of a cache over words 2 to 5 of a cache over the bytes.
+// Takes those steps in a cache over words 2 to 5 of a cache over the bytes.
 fn store_in_part(rt: &impl Abort, bytes: &mut [u8]) {
     let lower = Cache::new(ByteImage::new(bytes));
     let mut memory = Cache::new(Part::new(lower, Run { first: 2, count: 4 }));
-    assert!(rt; memory.restart());
-    assert_eq!(rt; memory.count(), 4);
-    assert_eq!(rt; memory.store(1, 7), Ok(()));
-    assert_eq!(rt; memory.load(1), Ok(7));
-    assert_eq!(rt; memory.barrier(), Ok(()));
-    assert_eq!(rt; memory.store(2, 8), Ok(()));
-    assert!(rt; memory.restart());
-    assert_eq!(rt; memory.load(1), Ok(7));
-    assert_eq!(rt; memory.load(2), Ok(0));
-    assert_eq!(rt; memory.store(4, 9), Err(Fault::Outside));
+    store_across_restart(rt, &mut memory);
 }
 
 #[test]

@@ -5,3 +5,5 @@
 mod image_tests;
 #[cfg(test)]
 mod pile_tests;
+#[cfg(test)]
+mod steps;

@@ -4,5 +4,6 @@ pub mod Image
 pub mod Lists
 pub mod Log
 pub mod Names
+pub mod Packed
 pub mod Table
 pub mod Touch

@@ -2,7 +2,7 @@ ghost use Rattle.std.specs.Prelude.{◌≡◌, ℕ, false, not, ◌&&◌, ◌||�
 ghost use Rattle.layout.specs.BlockSet.{has};
 
 // the most blocks that a set can have
-const BLOCKS: u64 = 4096;
+const MOST_BLOCKS: u64 = 4096;
 
 // A set of blocks: block b is in it if bit (b mod 64) of word (b / 64) is one.
 #[derive(Drop)]
@@ -22,7 +22,7 @@ impl BlockSet {
     pub fn contains(&self, block: u64) -> bool
         ensures { result ≡ has self.now block }
     {
-        block < BLOCKS && (self.words[(block / 64) as usize] >> (block % 64)) & 1 == 1
+        block < MOST_BLOCKS && (self.words[(block / 64) as usize] >> (block % 64)) & 1 == 1
     }
 
     // Puts a block below 4,096 into the set, and answers whether it was not yet there.
@@ -30,7 +30,7 @@ impl BlockSet {
         ensures value { result ≡ (nat_lt block 4096 && not (has self.old block)) }
         ensures after { (b : ℕ) → has self.new b ≡ (has self.old b || (b == block && nat_lt block 4096)) }
     {
-        if block >= BLOCKS || self.contains(block) {
+        if block >= MOST_BLOCKS || self.contains(block) {
             return false;
         }
         self.words[(block / 64) as usize] |= 1 << (block % 64);

@@ -1,5 +1,9 @@
-ghost use Rattle.std.specs.Prelude.{◌≡◌, ◌/◌, ◌%◌, ◌^◌, ◌<◌, true, false, MatchOption, ◌==◌};
+ghost use Rattle.std.specs.Prelude.{◌≡◌, true, false, Some, MatchOption};
 ghost use Rattle.layout.specs.Log.{no_piece, piece_of};
+ghost use Rattle.layout.specs.Packed.{state_number, StateIn, unknown_text, MarkIn, MarkWord, PieceWord};
+
+use std::error::Error;
+use std::fmt;
 
 // What the log tells of the last call.
 #[derive(Clone, Copy, PartialEq, Eq, Debug)]
@@ -12,24 +16,42 @@ pub enum LogState {
     Checkpoint,
 }
 
-impl LogState {
-    // The state of that number, 0 to 2; a larger number is no state.
-    pub fn from_word(word: u64) -> Option<LogState>
-        ensures { MatchOption result (2 < word) (λ s. elim s [ LogState.Free ↦ word ≡ 0 | LogState.Commit ↦ word ≡ 1 | LogState.Checkpoint ↦ word ≡ 2 ]) }
-    {
+// A number that is no state's.
+#[derive(Clone, Copy, PartialEq, Eq, Debug)]
+pub struct UnknownState(pub u64);
+
+impl fmt::Display for UnknownState {
+    ghost output = { λ e. Some (unknown_text e) };
+
+    fn fmt<W: fmt::Write>(&self, f: &mut fmt::Formatter<W>) -> fmt::Result {
+        write!(f, "no state of the log has number {}", self.0)
+    }
+}
+
+impl Error for UnknownState {}
+
+// The state of that number, 0 to 2; a larger number is no state.
+impl TryFrom<u64> for LogState {
+    type Error = UnknownState;
+
+    ghost try_from_gives = { StateIn };
+
+    fn try_from(word: u64) -> Result<LogState, UnknownState> {
         match word {
-            0 => Some(LogState::Free),
-            1 => Some(LogState::Commit),
-            2 => Some(LogState::Checkpoint),
-            _ => None,
+            0 => Ok(LogState::Free),
+            1 => Ok(LogState::Commit),
+            2 => Ok(LogState::Checkpoint),
+            _ => Err(UnknownState(word)),
         }
     }
+}
 
-    // The number of the state.
-    pub fn to_word(&self) -> u64
-        ensures { elim self.now [ LogState.Free ↦ result ≡ 0 | LogState.Commit ↦ result ≡ 1 | LogState.Checkpoint ↦ result ≡ 2 ] }
-    {
-        match self {
+// The number of the state.
+impl From<LogState> for u64 {
+    ghost from_gives = { λ state word. word ≡ state_number state };
+
+    fn from(state: LogState) -> u64 {
+        match state {
             LogState::Free => 0,
             LogState::Commit => 1,
             LogState::Checkpoint => 2,
@@ -44,26 +66,24 @@ pub struct Mark {
     pub follow: bool,
 }
 
-impl Mark {
-    // The lowest eight bits are the slot, the next one is the follow mark.
-    pub fn from_word(word: u64) -> Mark
-        ensures slot { result.slot ≡ word % 2 ^ 8 }
-        ensures follow { result.follow ≡ (word / 2 ^ 8 % 2 == 1) }
-    {
+// The lowest eight bits are the slot, the next one is the follow mark.
+impl From<u64> for Mark {
+    ghost from_gives = { MarkIn };
+
+    fn from(word: u64) -> Mark {
         Mark {
             slot: (word & 0xff) as u8,
             follow: (word >> 8) & 1 == 1,
         }
     }
+}
 
-    // The word of the mark, with zeros above bit 8.
-    pub fn to_word(&self) -> u64
-        ensures slot { result % 2 ^ 8 ≡ self.now.slot }
-        ensures follow { (result / 2 ^ 8 % 2 == 1) ≡ self.now.follow }
-        ensures small { result < 2 ^ 9 }
-    {
-        let Mark { slot, follow } = *self;
-        (u64::from(follow) << 8) | u64::from(slot)
+// The word of the mark, with zeros above bit 8.
+impl From<Mark> for u64 {
+    ghost from_gives = { MarkWord };
+
+    fn from(mark: Mark) -> u64 {
+        (u64::from(mark.follow) << 8) | u64::from(mark.slot)
     }
 }
 
@@ -89,19 +109,13 @@ impl Piece {
             count: ((word >> 24) & 0xff) as u8,
         })
     }
+}
 
-    // The word of the piece, with zeros above bit 31.
-    pub fn to_word(&self) -> u64
-        ensures block { (piece_of result).block ≡ self.now.block }
-        ensures first { (piece_of result).first ≡ self.now.first }
-        ensures count { (piece_of result).count ≡ self.now.count }
-        ensures small { result < 2 ^ 32 }
-    {
-        let Piece {
-            block,
-            first,
-            count,
-        } = *self;
-        (u64::from(count) << 24) | (u64::from(first) << 16) | u64::from(block)
+// The word of the piece, with zeros above bit 31.
+impl From<Piece> for u64 {
+    ghost from_gives = { PieceWord };
+
+    fn from(piece: Piece) -> u64 {
+        (u64::from(piece.count) << 24) | (u64::from(piece.first) << 16) | u64::from(piece.block)
     }
 }

@@ -16,21 +16,12 @@ fn is_letter(byte: u8) -> bool
 pub fn is_well_formed(name: &[u8]) -> bool
     ensures { result ≡ well_formed name.now }
 {
-    if name.len() != 8 || !is_letter(name[0]) {
-        return false;
-    }
-    let mut ended = false;
-    for i in 1..8 {
-        if name[i] == 0 {
-            ended = true;
-        } else if ended || !is_letter(name[i]) {
-            return false;
-        }
-    }
-    true
+    name.len() == 8
+        && is_letter(name[0])
+        && name.iter().skip_while(|&&b| is_letter(b)).all(|&b| b == 0)
 }
 
-// The word that holds a name, its first byte lowest.
+// The word that holds a name, its first byte lowest. Neither type is this crate's own, so it is a function and no `From`.
 pub fn name_word(name: Name) -> u64
     ensures value { result ≡ little_endian name }
     ensures bytes { bytes_of result ≡ name }

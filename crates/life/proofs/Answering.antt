@@ -1,6 +1,6 @@
 -- What the table says of a call, by its arguments and its answer. Assumes nothing.
-use Rattle.std.proofs.Common.{◌≡◌, ℕ, ◌+◌, ◌-◌, Bool, true, false, cond, not, ◌&&◌, eqb, leb, ◌⊎◌, List, length, replicate, Some, None, Option, sym, refl, ap, ◌∙◌, inl, inr, ⊎_elim, arith}
-use Rattle.std.proofs.lemmas.Bool.{true≢false, cases_Bool, cases_eq, ne_eqb, eq-eqb}
+use Rattle.std.proofs.Common.{◌≡◌, ℕ, ◌+◌, ◌-◌, ◌<◌, Bool, true, false, cond, not, ◌&&◌, eqb, leb, ◌⊎◌, List, length, replicate, Some, None, Option, sym, refl, ap, ◌∙◌, inl, inr, ⊎_elim, arith}
+use Rattle.std.proofs.lemmas.Bool.{cases_Bool, cases_eq, ne_eqb, eq-eqb}
 use Rattle.memory.specs.Model.{Model}
 use Rattle.memory.specs.Stores.{Words}
 use Rattle.layout.specs.Image.{Rule1, Rule2, Rule3, Rule4, Rule5, table_of}
@@ -34,42 +34,22 @@ clean-unbroken k n w c (inr busy) = busy.2 c.idle
 pub after-refused : (t : Table) (a : Ask) → ((answer t a).number ≡ 0 → ⊥) → after t a ≡ t
 after-refused t a some = ap (λ (b : Bool). cond b (record { blocks = t.blocks; files = change t.files a }) t) (ne_eqb (answer t a).number 0 some)
 
-some_same : {X : Type 0} (d x y : X) → Some x ≡ Some y → x ≡ y
-some_same {X} d x y e = ap get e
-  where
-    get : Option X → X
-    get None = d
-    get (Some z) = z
-
-none-some : {X : Type 0} (x : X) → ◌≡◌ {A = Option X} None (Some x) → ⊥
-none-some {X} x e = true≢false (ap has (sym e))
-  where
-    has : Option X → Bool
-    has None = false
-    has (Some z) = true
-
 pub cases-option : {X : Type 0} (o : Option X) → (o ≡ None) ⊎ ((x : X) × (o ≡ Some x))
 cases-option None = inl refl
 cases-option (Some x) = inr (x, refl)
 
 -- what the arguments alone call for is the table's answer, whatever the table is, and a refusal
-by-formed : (b : Bool) (x : Reply) (later : Reply) → cond {A = Option Reply} b None (Some (refuse 3)) ≡ Some x → (cond (not b) (refuse 3) later ≡ x) × (x.number ≡ 0 → ⊥)
-by-formed true x later e = absurd (none-some x e)
-by-formed false x later e = let s = some_same x (refuse 3) x e in (s, λ z. absurd (three (ap (λ (r : Reply). r.number) s ∙ z)))
-  where
-    three : ◌≡◌ {A = ℕ} 3 0 → ⊥
-    three h = omega arith
+refused-by : (k : ℕ) (x : Reply) → 0 < k → Some (refuse k) ≡ Some x → (refuse k ≡ x) × (x.number ≡ 0 → ⊥)
+refused-by k x some e = let s : refuse k ≡ x = cc in (s, λ z. omega (arith, ap (λ (r : Reply). r.number) s))
+
+by-formed : (b : Bool) (x later : Reply) → cond {A = Option Reply} b None (Some (refuse 3)) ≡ Some x → (cond (not b) (refuse 3) later ≡ x) × (x.number ≡ 0 → ⊥)
+by-formed true x later e = cc
+by-formed false x later e = refused-by 3 x (omega arith) e
 
 by-write : (b c : Bool) (x later : Reply) → cond {A = Option Reply} (not b) (Some (refuse 3)) (cond c None (Some (refuse 7))) ≡ Some x → (cond (not b) (refuse 3) (cond (not c) (refuse 7) later) ≡ x) × (x.number ≡ 0 → ⊥)
-by-write false c x later e = let s = some_same x (refuse 3) x e in (s, λ z. absurd (three (ap (λ (r : Reply). r.number) s ∙ z)))
-  where
-    three : ◌≡◌ {A = ℕ} 3 0 → ⊥
-    three h = omega arith
-by-write true true x later e = absurd (none-some x e)
-by-write true false x later e = let s = some_same x (refuse 7) x e in (s, λ z. absurd (seven (ap (λ (r : Reply). r.number) s ∙ z)))
-  where
-    seven : ◌≡◌ {A = ℕ} 7 0 → ⊥
-    seven h = omega arith
+by-write false c x later e = refused-by 3 x (omega arith) e
+by-write true true x later e = cc
+by-write true false x later e = refused-by 7 x (omega arith) e
 
 pub early-answer : (t : Table) (a : Ask) (x : Reply) → early a ≡ Some x → (answer t a ≡ x) × (x.number ≡ 0 → ⊥)
 early-answer t (create n) x e = by-formed (well_formed n) x _ e
@@ -98,18 +78,6 @@ refused-buffer t n offset count some = ⊎_elim formed unformed (cases_Bool (wel
         given : (bs : List ℕ) → find n t.files ≡ Some bs → (answer t (read n offset count)).number ≡ 0
         given bs is = simp (e, is)
 
-pub shows : (m : Model) (t : Table) (a : Ask) (r : Reply) (bytes : List ℕ) → Rule2 m.seen → HoldsFiles m.seen t → r ≡ answer t a → Buffered m a r bytes → Shows t a bytes
-shows m t (create n) r bytes two holds e h = tt
-shows m t (write n offset bs) r bytes two holds e h = tt
-shows m t (read n offset count) r bytes two holds e h =
-    ⊎_elim
-    (λ z. h ∙ ap (λ (b : Bool). cond b (buffer (table_of m.seen) n offset count) (replicate count 0)) (eq-eqb r.number 0 z) ∙ holds-buffer m.seen t n offset count two holds)
-    (λ s. h ∙ ap (λ (b : Bool). cond b (buffer (table_of m.seen) n offset count) (replicate count 0)) (ne_eqb r.number 0 s) ∙ sym (refused-buffer t n offset count (λ z. s (ap (λ (x : Reply). x.number) e ∙ z))))
-    (cases_eq r.number 0)
-shows m t (shorten n len) r bytes two holds e h = tt
-shows m t (rename n o) r bytes two holds e h = tt
-shows m t (remove n) r bytes two holds e h = tt
-
 -- a refusal shows the zeros that every table refuses with
 pub shows-early : (m : Model) (t : Table) (a : Ask) (r : Reply) (bytes : List ℕ) → r ≡ answer t a → (r.number ≡ 0 → ⊥) → Buffered m a r bytes → Shows t a bytes
 shows-early m t (create n) r bytes e s h = tt
@@ -119,6 +87,18 @@ shows-early m t (read n offset count) r bytes e s h =
 shows-early m t (shorten n len) r bytes e s h = tt
 shows-early m t (rename n o) r bytes e s h = tt
 shows-early m t (remove n) r bytes e s h = tt
+
+pub shows : (m : Model) (t : Table) (a : Ask) (r : Reply) (bytes : List ℕ) → Rule2 m.seen → HoldsFiles m.seen t → r ≡ answer t a → Buffered m a r bytes → Shows t a bytes
+shows m t (create n) r bytes two holds e h = tt
+shows m t (write n offset bs) r bytes two holds e h = tt
+shows m t (read n offset count) r bytes two holds e h =
+    ⊎_elim
+    (λ z. h ∙ ap (λ (b : Bool). cond b (buffer (table_of m.seen) n offset count) (replicate count 0)) (eq-eqb r.number 0 z) ∙ holds-buffer m.seen t n offset count two holds)
+    (λ s. shows-early m t (read n offset count) r bytes e s h)
+    (cases_eq r.number 0)
+shows m t (shorten n len) r bytes two holds e h = tt
+shows m t (rename n o) r bytes two holds e h = tt
+shows m t (remove n) r bytes two holds e h = tt
 
 -- a read that is cut off leaves zeros
 pub blank : (m : Model) (a : Ask) (r : Reply) (bytes : List ℕ) → r ≡ refuse 1 → Buffered m a r bytes → Blank a bytes

@@ -1,7 +1,7 @@
 -- A formatted memory holds no files, and so a life can begin. Assumes nothing.
-use Rattle.std.proofs.Common.{◌≡◌, ℕ, ◌+◌, ◌*◌, ◌/◌, ◌<◌, ◌≤◌, Bool, true, false, not, eqb, List, [], ◌∷◌, ◌++◌, map, reverse, length, get_or, take, Ok, Err, Result, sym, refl, ap, ◌∙◌, subst, ⊎_elim, arith}
-use Rattle.std.proofs.lemmas.List.{reverse-append, map-append, length-map, get_or-map, take_more}
-use Rattle.std.proofs.lemmas.Bool.{true≢false, cases_Bool}
+use Rattle.std.proofs.Common.{◌≡◌, ℕ, ◌+◌, ◌*◌, ◌/◌, ◌<◌, ◌≤◌, Bool, true, false, not, eqb, List, [], ◌∷◌, ◌++◌, map, reverse, length, get_or, take, Ok, Option, Result, sym, refl, ap, ◌∙◌, subst, ⊎_elim, arith}
+use Rattle.std.proofs.lemmas.List.{reverse-append, map-append, length-map, get_or-map, take_more, take_all}
+use Rattle.std.proofs.lemmas.Bool.{cases_Bool}
 use Rattle.std.proofs.lemmas.Bool.Decides.{nat_tests}
 use Rattle.memory.specs.Model.{Model, SeenMay}
 use Rattle.memory.specs.Stores.{Words}
@@ -16,13 +16,12 @@ use Rattle.images.proofs.Slots.{no-file}
 use Rattle.layout.specs.Lists.{Rearranged}
 use Rattle.image_check.specs.Size.{suits}
 use Rattle.image_check.proofs.Sizing.{size-blocks}
-use Rattle.image_check.specs.declared.refusal.Refusal.{Refusal}
 use Rattle.store.specs.Format.{formatted, Formatted, Formats}
 use Rattle.life.specs.Asked.{Asked, restart, asked}
 use Rattle.life.specs.Life.{Event, is_done, ready_after, ready, begins, empty, Lived}
 use Rattle.life.specs.Step.{Did}
-use Rattle.life.specs.Told.{reply_of, event}
-use Rattle.life.specs.declared.answer.Answer.{Answer}
+use Rattle.life.specs.Told.{reply_of, event, Lives}
+use Rattle.life.specs.declared.answer.Denial.{Denial}
 use Rattle.life.specs.declared.call.Call.{Call}
 use Rattle.life.specs.declared.call.Call.TheVariants.{Restart, Recover, File}
 use Rattle.life.proofs.Living.{Alive, settled_same, lives-on}
@@ -33,7 +32,7 @@ module _ (n : ℕ) (w : Words) (size : w 0 ≡ n) (idle : w 8 ≡ 0) (bare : (s 
   unnamed s lt = ap (λ x. not (eqb x 0)) (bare s lt)
 
   never : {X : Type 0} (s : ℕ) → s < 16 → named w s ≡ true → X
-  never s lt name = absurd (true≢false (sym name ∙ unnamed s lt))
+  never s lt name = let no = unnamed s lt in cc
 
   no-used : used_blocks w ≡ []
   no-used = joined_same (slot_blocks w) (λ s. []) 0 16 (λ s lt. no_blocks w s (unnamed s (omega arith)))
@@ -80,16 +79,12 @@ begins-alive m f t h =
     }
 
 -- the image seen can be found, and so some table explains the life
-pub alive-lived : (f : Model) (es : List Event) (m : Model) (calls : List Asked) → SeenMay m → Alive f es m → map (λ (e : Event). e.asked) (reverse es) ≡ calls → Lived f calls es
+alive-lived : (f : Model) (es : List Event) (m : Model) (calls : List Asked) → SeenMay m → Alive f es m → map (λ (e : Event). e.asked) (reverse es) ≡ calls → Lived f calls es
 alive-lived f es m calls seen alive all = let now = alive.found m.seen seen in record { all = all; choice = (now.0, now.1) }
 
 -- format that is done begins a life
 pub formats-alive : (m f : Model) → Formats m (Ok tt) f → Alive f [] f
-formats-alive m f h = ⊎_elim (λ t. ⊎_elim (λ d. begins-alive m f t d.1) (λ e. absurd (true≢false (ap is_ok e.0))) (h.taken t)) (λ no. absurd (true≢false (ap is_ok (h.refused no).0))) (cases_Bool (suits m.count))
-  where
-    is_ok : Result Unit Refusal → Bool
-    is_ok (Ok x) = true
-    is_ok (Err e) = false
+formats-alive m f h = ⊎_elim (λ t. ⊎_elim (λ d. begins-alive m f t d.1) (λ e. let bad = e.0 in cc) (h.taken t)) (λ no. let bad = (h.refused no).0 in cc) (cases_Bool (suits m.count))
 
 -- one call more
 ready-alike : (a b : ℕ) (call : Call) (d r : Bool) → ready_after (asked a call) d r ≡ ready_after (asked b call) d r
@@ -97,17 +92,43 @@ ready-alike a b Restart d r = refl
 ready-alike a b Recover d r = refl
 ready-alike a b (File x) d r = refl
 
-pub one_more : (f m n : Model) (es : List Event) (count : ℕ) (call : Call) (answer : Answer) (bytes : List ℕ) (b : Bool) → Alive f es m → b ≡ ready es → length bytes ≡ count → Did m b (asked count call) (reply_of answer) bytes n → Alive f (event call answer bytes n ∷ es) n
-one_more f m n es count call answer bytes b alive is long did =
-    lives-on f es m (asked (length bytes) call) (reply_of answer) bytes n alive (subst (λ k. Did m (ready es) (asked k call) (reply_of answer) bytes n) (sym long) (subst (λ x. Did m x (asked count call) (reply_of answer) bytes n) is did))
+-- After some of the calls of a life: the events that the witness was told of them, and what is known by them.
+pub record Along (f : Model) (calls : List Asked) (before now : List Event → Type 0) (is_ready : Bool) (m : Model) : Type 0 where
+  pub events : List Event
+  pub told : (old : List Event) → before old → now (events ++ old)
+  pub alive : Alive f events m
+  pub same_ready : is_ready ≡ ready events
+  pub all : map (λ (e : Event). e.asked) (reverse events) ≡ calls
 
-pub ready-more : (n : Model) (es : List Event) (call : Call) (answer : Answer) (bytes : List ℕ) (b x : Bool) → b ≡ ready es → x ≡ ready_after (asked 0 call) (is_done (reply_of answer)) b → x ≡ ready (event call answer bytes n ∷ es)
-ready-more n es call answer bytes b x is e = e ∙ ready-alike 0 (length bytes) call (is_done (reply_of answer)) b ∙ ap (ready_after (asked (length bytes) call) (is_done (reply_of answer))) is
-
-pub asked-more : (es : List Event) (calls : List Call) (i count : ℕ) (d : Call) (e : Event) → i < length calls → e.asked ≡ asked count (get_or calls i d) → map (λ (x : Event). x.asked) (reverse es) ≡ take i (map (asked count) calls) → map (λ (x : Event). x.asked) (reverse (e ∷ es)) ≡ take (i + 1) (map (asked count) calls)
-asked-more es calls i count d e lt is before =
+asked-more : (es : List Event) (calls : List Asked) (i : ℕ) (e : Event) → i < length calls → e.asked ≡ get_or calls i restart → map (λ (x : Event). x.asked) (reverse es) ≡ take i calls → map (λ (x : Event). x.asked) (reverse (e ∷ es)) ≡ take (i + 1) calls
+asked-more es calls i e lt is before =
     ap (map (λ (x : Event). x.asked)) (reverse-append (e ∷ []) es)
     ∙ map-append (λ (x : Event). x.asked) (reverse es) (e ∷ [])
     ∙ ap (λ xs. xs ++ e.asked ∷ []) before
-    ∙ ap (λ a. take i (map (asked count) calls) ++ a ∷ []) (is ∙ sym (get_or-map (asked count) calls i d restart lt))
-    ∙ sym (take_more (map (asked count) calls) i restart (subst (λ k. i < k) (sym (length-map calls (asked count))) lt))
+    ∙ ap (λ a. take i calls ++ a ∷ []) is
+    ∙ sym (take_more calls i restart lt)
+
+pub along-more : (f m n : Model) (calls : List Call) (i count : ℕ) (before now next : List Event → Type 0) (b x : Bool) (answer : Result (Option ℕ) Denial) (bytes : List ℕ)
+    → i < length calls
+    → length bytes ≡ count
+    → Along f (take i (map (asked count) calls)) before now b m
+    → Did m b (asked count (get_or calls i Restart)) (reply_of answer) bytes n
+    → x ≡ ready_after (asked 0 (get_or calls i Restart)) (is_done (reply_of answer)) b
+    → ((es : List Event) → now es → next (event (get_or calls i Restart) answer bytes n ∷ es))
+    → Along f (take (i + 1) (map (asked count) calls)) before next x n
+along-more f m n calls i count before now next b x answer bytes lt long along did is told =
+    let call = get_or calls i Restart in
+    let r = reply_of answer in
+    let es = along.events in
+    record {
+      events = event call answer bytes n ∷ es;
+      told = λ old h. told (es ++ old) (along.told old h);
+      alive = lives-on f es m (asked (length bytes) call) r bytes n along.alive (rw long (subst (λ y. Did m y (asked count call) r bytes n) along.same_ready did));
+      same_ready = is ∙ ready-alike 0 (length bytes) call (is_done r) b ∙ ap (ready_after (asked (length bytes) call) (is_done r)) along.same_ready;
+      all = asked-more es (map (asked count) calls) i (event call answer bytes n) (simp length-map lt) (ap (λ k. asked k call) long ∙ sym (get_or-map (asked count) calls i Restart restart lt)) along.all;
+    }
+
+-- all calls are made, and the life is lived
+pub along-lives : (m f n : Model) (calls : List Asked) (i : ℕ) (before now : List Event → Type 0) (b : Bool) → SeenMay n → length calls ≤ i → Formats m (Ok tt) f → Along f (take i calls) before now b n → Lives m calls (Ok tt) before now n
+along-lives m f n calls i before now b seen all formats along =
+    (f, formats, (along.events, alive-lived f along.events n calls seen along.alive (along.all ∙ take_all i calls all), sym along.alive.last, along.told))

@@ -12,7 +12,7 @@ use Rattle.layout.specs.Table.{Table, Ask, Reply, done, refuse, early, answer, a
 use Rattle.image_check.specs.Reading.{Looked}
 use Rattle.image_check.specs.Size.{suits}
 use Rattle.image_check.specs.declared.refusal.Refusal.{Refusal}
-use Rattle.image_check.specs.declared.refusal.Refusal.TheVariants.{PowerLost, BadImage, BadName, NoFile, NameTaken, TooManyFiles, TooLong, WrongSize}
+use Rattle.image_check.specs.declared.refusal.Refusal.TheVariants.{PowerLost, BadImage}
 use Rattle.image_check.proofs.Sizing.{size-blocks}
 use Rattle.store.specs.Calls.{reply, CallCut, Answered, Took, FileCall}
 use Rattle.store.specs.Phase.{Drawn}
@@ -45,9 +45,6 @@ abbrev Reached : Model → List Event → Model → Event → Words → Type 0
 Reached f es m e v = (u w : Table) × Explained f (empty (f.count / 32)) es u × Takes m u (ready es) e.asked e w × LeadsToFiles (f.count / 32) v w
 
 module _ (f : Model) (es : List Event) (m : Model) (alive : Alive f es m) where
-  blocks : ℕ
-  blocks = f.count / 32
-
   big : 6 ≤ f.count / 32
   big = (size-blocks f.count (f.count / 32) alive.suitable refl).0
 
@@ -71,12 +68,13 @@ module _ (f : Model) (es : List Event) (m : Model) (alive : Alive f es m) where
       let e = event restart (done []) bytes n in
       let drawn : Drawn m n.seen = λ i lt. h.2 i lt in
       let now = alive.found n.seen drawn in
+      let room = subst (λ x. 32 * (f.count / 32) ≤ x) (sym h.1) size in
       let told = next e now.0 now.0 now.1 (restart-takes now.0 (done []) bytes n (ready es) (refl, inr (refl, h.0))) in
       record {
         suitable = alive.suitable;
         count = h.1 ∙ alive.count;
         last = refl;
-        found = λ v d. (now.0, told, same-leads (f.count / 32) n big (subst (λ x. 32 * (f.count / 32) ≤ x) (sym h.1) size) v now.0 (settled_same (f.count / 32) n v h.3 d (subst (λ x. 32 * (f.count / 32) ≤ x) (sym h.1) size)) now.2);
+        found = λ v d. (now.0, told, same-leads (f.count / 32) n big room v now.0 (settled_same (f.count / 32) n v h.3 d room) now.2);
         settled = λ _. h.3;
         held = λ _. (now.0, told, now.2, λ no. absurd (true≢false (sym no)));
       }
@@ -171,18 +169,17 @@ module _ (f : Model) (es : List Event) (m : Model) (alive : Alive f es m) where
     recovered : (x : Result Bool Refusal) → Recovering (f.count / 32) m x n → Alive f (event recover (reply put_back x) bytes n ∷ es) n
     recovered (Ok put) h = recover-done put h
     recovered (Err PowerLost) h = recover-cut h
-    recovered (Err (BadImage k)) h = absurd (never-bad k h.0 h.1)
-    recovered (Err BadName) h = absurd h
-    recovered (Err NoFile) h = absurd h
-    recovered (Err NameTaken) h = absurd h
-    recovered (Err TooManyFiles) h = absurd h
-    recovered (Err TooLong) h = absurd h
-    recovered (Err WrongSize) h = absurd h
+    recovered (Err (BadImage k)) h = absurd (never-bad _ h.0 h.1)
+    recovered (Err _) h = absurd h
 
   -- a file call on a ready store
   module _ (a : Ask) (r : Reply) (bytes : List ℕ) (n : Model) (is-ready : ready es ≡ true) (buffered : Buffered m a r bytes) where
     file-takes : (u w : Table) → FileTakes u a (event (file a) r bytes n) w → Takes m u (ready es) (file a) (event (file a) r bytes n) w
     file-takes u w h = subst (λ b. Takes m u b (file a) (event (file a) r bytes n) w) (sym is-ready) h
+
+    file-refused : (u : Table) → r ≡ answer u a → (r.number ≡ 0 → ⊥) → Shows u a bytes → Takes m u (ready es) (file a) (event (file a) r bytes n) u
+    file-refused u answers some show =
+        file-takes u u (inr (answers, show, sym (after-refused u a (λ z. some (ap (λ (y : Reply). y.number) answers ∙ z))), λ d. absurd (some (eqb-true r.number 0 d))))
 
     -- refused for its arguments
     file-early : (x : Reply) → early a ≡ Some x → r ≡ x → n ≡ m → Alive f (event (file a) r bytes n ∷ es) n
@@ -190,7 +187,7 @@ module _ (f : Model) (es : List Event) (m : Model) (alive : Alive f es m) where
         let says = early-answer u a x wrong in
         let some : r.number ≡ 0 → ⊥ = λ z. says.1 (ap (λ (y : Reply). y.number) (sym is) ∙ z) in
         let answers : r ≡ answer u a = is ∙ sym says.0 in
-        file-takes u u (inr (answers, shows-early m u a r bytes answers some buffered, sym (after-refused u a (λ z. some (ap (λ (y : Reply). y.number) answers ∙ z))), λ d. absurd (some (eqb-true r.number 0 d)))))
+        file-refused u answers some (shows-early m u a r bytes answers some buffered))
 
     file-cut : r ≡ refuse 1 → CallCut (f.count / 32) m a n → Alive f (event (file a) r bytes n ∷ es) n
     file-cut is cut = cut_off (event (file a) r bytes n) cut.down cut.count (λ v d. ⊎_elim (with-power v d) (without v d) (cases_Bool m.up))
@@ -232,7 +229,7 @@ module _ (f : Model) (es : List Event) (m : Model) (alive : Alive f es m) where
             let same : Same (f.count / 32) m.seen n.seen = λ i lt. looked.seen i (omega (arith, size)) in
             let clean : Clean (f.count / 32) n.seen = record { sound = same-sound (f.count / 32) m.seen n.seen big same ans.clean.sound; idle = same 8 (omega (arith, big)) ∙ ans.clean.idle } in
             done-with (event (file a) r bytes n) u u looked.fewer.same_count (looked-settled looked (alive.settled ans.was-up)) clean (same-holds_files (f.count / 32) m.seen n.seen u big same ans.clean.sound holds) before
-            (file-takes u u (inr (answers, show, sym (after-refused u a (λ z. some (ap (λ (y : Reply). y.number) answers ∙ z))), λ d. absurd (some (eqb-true r.number 0 d)))))
+            (file-refused u answers some show)
 
     file-took : Took (f.count / 32) m a r n → Alive f (event (file a) r bytes n ∷ es) n
     file-took (inl cut) = file-cut cut.0 cut.1

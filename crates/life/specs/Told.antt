@@ -1,24 +1,25 @@
 -- What a witness is told of a call, and what a whole life leaves.
-use Rattle.std.specs.Prelude.{◌≡◌, ℕ, List, [], ◌∷◌, ◌++◌, length, Some, None, Ok, Err, Option, Result}
+use Rattle.std.specs.Prelude.{◌≡◌, ℕ, List, ◌++◌, length, Ok, Err, Option, Result}
+use Rattle.std.specs.Option.{option_to_list}
 use Rattle.memory.specs.Model.{Model}
-use Rattle.layout.specs.Table.{Reply}
+use Rattle.layout.specs.Table.{Reply, done, refuse}
 use Rattle.image_check.specs.declared.refusal.Refusal.{Refusal}
+use Rattle.store.specs.Calls.{refused_reply}
 use Rattle.store.specs.Format.{Formats}
 use Rattle.life.specs.Asked.{Asked, asked}
 use Rattle.life.specs.Life.{Event, latest, Lived}
-use Rattle.life.specs.declared.answer.Answer.{Answer}
+use Rattle.life.specs.declared.answer.Denial.{Denial}
+use Rattle.life.specs.declared.answer.Denial.TheVariants.{Refused, NotAllowed}
 use Rattle.life.specs.declared.call.Call.{Call}
 
 -- the reply of an answer
-abbrev pub carried : Option ℕ → List ℕ
-carried None = []
-carried (Some x) = x ∷ []
-
-abbrev pub reply_of : Answer → Reply
-reply_of a = record { number = a.number; carries = carried a.carried }
+abbrev pub reply_of : Result (Option ℕ) Denial → Reply
+reply_of (Ok x) = done (option_to_list x)
+reply_of (Err (Refused e)) = refused_reply e
+reply_of (Err NotAllowed) = refuse 10
 
 -- what is told of a call: what was asked, the answer, the read buffer, and the memory
-abbrev pub event : Call → Answer → List ℕ → Model → Event
+abbrev pub event : Call → Result (Option ℕ) Denial → List ℕ → Model → Event
 event call answer bytes m = record { asked = asked (length bytes) call; reply = reply_of answer; buffer = bytes; memory = m }
 
 -- A life on memory m: format is done, and the calls are lived; or format is refused, and there is none. What a witness was

@@ -1,12 +1,14 @@
 ghost use Rattle.std.specs.Prelude.{◌≡◌, Bool, length};
-ghost use Rattle.store.specs.Calls.{FileCall};
+ghost use Rattle.std.specs.Option.{option_to_list};
+ghost use Rattle.store.specs.Calls.{FileCall, reply};
 ghost use Rattle.life.specs.Asked.{asked, ask_of};
 ghost use Rattle.life.specs.Life.{is_done, ready_after};
 ghost use Rattle.life.specs.Step.{Buffered, Did};
 ghost use Rattle.life.specs.Told.{reply_of};
 
-use crate::answer::Answer;
+use crate::answer::{Answer, Denial};
 use crate::call::{Ask, Call};
+use image_check::refusal::Refusal;
 use memory::memory::Memory;
 use store::names::{create, remove, rename};
 use store::read::read;
@@ -14,26 +16,24 @@ use store::recover::recover;
 use store::shorten::shorten;
 
 // Makes a file call; a read fills the whole buffer.
-fn ask<M: Memory>(memory: &mut M, ask: Ask<'_>, buffer: &mut [u8]) -> Answer
-    ensures answered { FileCall (M.Memory.model memory.old) (ask_of (length buffer.old) ask.entry) (reply_of result) (M.Memory.model memory.new) }
-    ensures buffered { Buffered (M.Memory.model memory.old) (ask_of (length buffer.old) ask.entry) (reply_of result) buffer.new }
+fn ask<M: Memory>(memory: &mut M, ask: Ask<'_>, buffer: &mut [u8]) -> Result<Option<u64>, Refusal>
+    ensures answered { FileCall (M.Memory.model memory.old) (ask_of (length buffer.old) ask.entry) (reply option_to_list result) (M.Memory.model memory.new) }
+    ensures buffered { Buffered (M.Memory.model memory.old) (ask_of (length buffer.old) ask.entry) (reply option_to_list result) buffer.new }
     ensures long { length buffer.new ≡ length buffer.old }
     ensures lent { M.Memory.lent memory.new ≡ M.Memory.lent memory.old }
 {
     match ask {
-        Ask::Create(name) => Answer::plain(create(memory, *name)),
-        Ask::Read(name, offset) => Answer::counted(read(memory, *name, offset, buffer)),
-        Ask::Shorten(name, length) => Answer::plain(shorten(memory, *name, length)),
-        Ask::Rename(name, new) => Answer::plain(rename(memory, *name, *new)),
-        Ask::Remove(name) => Answer::plain(remove(memory, *name)),
+        Ask::Create(name) => create(memory, *name)?,
+        Ask::Read(name, offset) => {
+            let count = read(memory, *name, offset, buffer)?;
+            return Ok(Some(count as u64));
+        }
+        Ask::Shorten(name, length) => shorten(memory, *name, length)?,
+        Ask::Rename(name, new) => rename(memory, *name, *new)?,
+        Ask::Remove(name) => remove(memory, *name)?,
     }
+    Ok(None)
 }
-
-// the answer of a call that the state does not allow
-const NOT_ALLOWED: Answer = Answer {
-    number: 10,
-    carried: None,
-};
 
 // Makes a call on a store that is ready or not.
 pub(crate) fn step<M: Memory>(
@@ -46,23 +46,17 @@ pub(crate) fn step<M: Memory>(
     ensures long { length buffer.new ≡ length buffer.old }
     ensures lent { M.Memory.lent memory.new ≡ M.Memory.lent memory.old }
 {
-    match call {
-        Call::Restart => Answer {
-            number: if memory.restart() { 0 } else { 1 },
-            carried: None,
-        },
-        Call::Recover => {
-            if ready {
-                return NOT_ALLOWED;
+    match (call, ready) {
+        (Call::Restart, _) => {
+            if memory.restart() {
+                Ok(None)
+            } else {
+                Err(Denial::Refused(Refusal::PowerLost))
             }
-            Answer::recovered(recover(memory))
         }
-        Call::File(file) => {
-            if !ready {
-                return NOT_ALLOWED;
-            }
-            ask(memory, file, buffer)
-        }
+        (Call::Recover, false) => Ok(Some(u64::from(recover(memory)?))),
+        (Call::File(file), true) => Ok(ask(memory, file, buffer)?),
+        (Call::Recover, true) | (Call::File(_), false) => Err(Denial::NotAllowed),
     }
 }
 
@@ -72,7 +66,7 @@ pub(crate) fn ready_after(ready: bool, call: Call<'_>, answer: Answer) -> bool
 {
     match call {
         Call::Restart => false,
-        Call::Recover => answer.number == 0 || ready,
+        Call::Recover => answer.is_ok() || ready,
         Call::File(_) => ready,
     }
 }

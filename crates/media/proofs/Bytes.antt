@@ -1,7 +1,9 @@
 -- A word and its bytes.
-use Rattle.std.proofs.Common.{◌≡◌, ℕ, suc, ◌+◌, ◌*◌, ◌/◌, ◌%◌, ◌^◌, ◌<◌, ◌≤◌, List, [], ◌∷◌, ◌++◌, length, get_or, take, drop, sym, refl, ap, ◌∙◌, ⊎_elim, add_assoc, div-one, arith}
+use Rattle.std.proofs.Common.{◌≡◌, ℕ, zero, suc, ◌+◌, ◌*◌, ◌^◌, ◌<◌, ◌≤◌, List, [], ◌++◌, length, get_or, take, drop, sym, refl, ap, ◌∙◌, ⊎_elim, arith}
 use borrow.Rule.Slice.PartMut.{put_mid}
-use Rattle.std.proofs.lemmas.List.{at_drop_more, drop-take, drop_at, drop-drop, length-take-le, length-append, length-drop}
+use Rattle.std.specs.Int.{from_le_bytes, w64}
+use Rattle.std.specs.Simd.{first_chunks}
+use Rattle.std.proofs.lemmas.List.{at_drop_more, drop-take, drop_at, drop-drop, length-take-le, length-append, length-drop, take_all}
 use Rattle.std.proofs.lemmas.Slice.{take-put_mid_below, drop-put_mid}
 use Rattle.std.proofs.lemmas.Bool.{cases_lt}
 use Rattle.memory.specs.Bytes.{little_endian, word_at, bytes_of}
@@ -11,26 +13,38 @@ use Rattle.media.specs.ByteImage.{words_in, with_word}
 lowest : (bs : List ℕ) (i n : ℕ) → i < length bs → little_endian (take (suc n) (drop i bs)) ≡ get_or bs i 0 + 256 * little_endian (take n (drop (i + 1) bs))
 lowest bs i n h = at_drop_more (λ xs. little_endian (take (suc n) xs)) bs i 0 h
 
--- a word is read byte by byte
-pub word-reads : (bs : List ℕ) (i : ℕ) → i < words_in bs → get_or bs (8 * i) 0 + get_or bs (8 * i + 1) 0 * 256 + get_or bs (8 * i + 2) 0 * 65536 + get_or bs (8 * i + 3) 0 * 16777216 + get_or bs (8 * i + 4) 0 * 4294967296 + get_or bs (8 * i + 5) 0 * 1099511627776 + get_or bs (8 * i + 6) 0 * 281474976710656 + get_or bs (8 * i + 7) 0 * 72057594037927936 ≡ word_at bs i
-word-reads bs i h =
-    let byte0 = lowest bs (8 * i) 7 (omega arith) in
-    let byte1 = simp add_assoc at (lowest bs (8 * i + 1) 6 (omega arith)) in
-    let byte2 = simp add_assoc at (lowest bs (8 * i + 2) 5 (omega arith)) in
-    let byte3 = simp add_assoc at (lowest bs (8 * i + 3) 4 (omega arith)) in
-    let byte4 = simp add_assoc at (lowest bs (8 * i + 4) 3 (omega arith)) in
-    let byte5 = simp add_assoc at (lowest bs (8 * i + 5) 2 (omega arith)) in
-    let byte6 = simp add_assoc at (lowest bs (8 * i + 6) 1 (omega arith)) in
-    let byte7 = lowest bs (8 * i + 7) 0 (omega arith) in
-    omega arith
+-- eight bytes read as one number
+bytes-read : (ys : List ℕ) → length ys ≡ 8 → from_le_bytes w64 ys ≡ little_endian ys
+bytes-read ys e =
+    let byte0 = lowest ys 0 7 (omega arith) in
+    let byte1 = lowest ys 1 6 (omega arith) in
+    let byte2 = lowest ys 2 5 (omega arith) in
+    let byte3 = lowest ys 3 4 (omega arith) in
+    let byte4 = lowest ys 4 3 (omega arith) in
+    let byte5 = lowest ys 5 2 (omega arith) in
+    let byte6 = lowest ys 6 1 (omega arith) in
+    let byte7 = lowest ys 7 0 (omega arith) in
+    let all : take 8 ys ≡ ys = take_all 8 ys (omega arith) in
+    omega (arith, ap little_endian all)
+
+-- of a run of bytes in eights, the eight at i make word i
+chunk-at : (k : ℕ) (bs : List ℕ) (i : ℕ) (d : List ℕ) → i < k → get_or (first_chunks 8 k bs) i d ≡ take 8 (drop (8 * i) bs)
+chunk-at zero bs i d h = absurd (omega arith)
+chunk-at (suc k) bs zero d h = refl
+chunk-at (suc k) bs (suc i) d h =
+    let next : 8 + 8 * i ≡ 8 * suc i = omega arith in
+    chunk-at k (drop 8 bs) i d (omega arith) ∙ ap (take 8) (drop-drop (8 * i) 8 bs ∙ ap (λ n. drop n bs) next)
+
+-- word i is read from the eight bytes at i
+pub word-read : (bs : List ℕ) (i : ℕ) (words : List (List ℕ)) → i < words_in bs → words ≡ first_chunks 8 (words_in bs) bs → from_le_bytes w64 (get_or words i []) ≡ word_at bs i
+word-read bs i words h e =
+    let eight = length-take-le 8 (drop (8 * i) bs) (omega (arith, length-drop (8 * i) bs)) in
+    let same = ap (λ ws. get_or ws i []) e ∙ chunk-at (words_in bs) bs i [] h in
+    ap (from_le_bytes w64) same ∙ bytes-read (take 8 (drop (8 * i) bs)) eight
 
 -- the bytes of a word make the word
 whole : (v : ℕ) → v < 2 ^ 64 → little_endian (bytes_of v) ≡ v
 whole v h = omega arith
-
--- the bytes of a word as `to_le_bytes` gives them
-pub bytes-of : (v : ℕ) → (v % 256) ∷ (v / 256 % 256) ∷ (v / 65536 % 256) ∷ (v / 16777216 % 256) ∷ (v / 4294967296 % 256) ∷ (v / 1099511627776 % 256) ∷ (v / 281474976710656 % 256) ∷ (v / 72057594037927936 % 256) ∷ [] ≡ bytes_of v
-bytes-of v = rw (div-one v)
 
 -- eight bytes written at word i store that word
 pub word-written : (bs : List ℕ) (i v k : ℕ) (ys : List ℕ) → k ≡ 8 → ys ≡ bytes_of v → put_mid (8 * i) k bs ys ≡ with_word bs i v

@@ -34,17 +34,8 @@ impl<'a> ByteImage<'a> {
         requires { at < words_in (held self.now) }
         ensures { result ≡ word_at (held self.now) at }
     {
-        let i = 8 * at;
-        u64::from_le_bytes([
-            self.bytes[i],
-            self.bytes[i + 1],
-            self.bytes[i + 2],
-            self.bytes[i + 3],
-            self.bytes[i + 4],
-            self.bytes[i + 5],
-            self.bytes[i + 6],
-            self.bytes[i + 7],
-        ])
+        let (words, _) = self.bytes.as_chunks::<8>();
+        u64::from_le_bytes(words[at])
     }
 }
 

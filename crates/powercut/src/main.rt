@@ -3,8 +3,9 @@
 ghost use Rattle.std.specs.Prelude.{List};
 ghost use Rattle.life.specs.Life.{Event};
 
+use image_check::refusal::Refusal;
 use layers::part::Run;
-use life::answer::Answer;
+use life::answer::{Answer, Denial};
 use life::call::{Ask, Call};
 use life::live::live;
 use life::witness::Witness;
@@ -39,7 +40,7 @@ impl<M: Memory> Witness<M> for Tally {
 
     fn note(&mut self, _call: Call<'_>, answer: Answer, _buffer: &[u8], _memory: &M) {
         self.told = self.told.saturating_add(1);
-        if answer.number == 2 {
+        if let Err(Denial::Refused(Refusal::BadImage(_))) = answer {
             self.bad = self.bad.saturating_add(1);
         }
     }
@@ -67,9 +68,9 @@ fn live_once(heap: Global, given: u8, operations: u64, tally: &mut Tally) -> any
         Call::File(Ask::Read(b, 0)),
     ];
     let mut buffer = [0; 4];
-    match live(&mut memory, &calls, &mut buffer, tally) {
-        Ok(()) | Err(_) => Ok(()),
-    }
+    // a format that is refused is no life, and there is nothing to tell
+    let _ = live(&mut memory, &calls, &mut buffer, tally);
+    Ok(())
 }
 
 fn main(rt: HostRuntime) -> anyhow::Result<()> {

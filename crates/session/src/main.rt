@@ -1,11 +1,10 @@
 #![tactic(auto)]
 
-use console::line::LINE;
 use console::state::State;
-use console::turn::take_turn;
+use console::turn::run;
 use layers::cache::Cache;
 use media::lagging::LaggingMemory;
-use std::io::{Read, Write};
+use std::io::Read;
 
 // the bytes of input that are read at most
 const INPUT: u64 = 65536;
@@ -16,26 +15,11 @@ const WORDS: usize = 2048;
 // which words of the memory keep their newest value when power is lost
 const GIVEN: u8 = 85;
 
-// Runs the commands of the input on the memory, and prints the line of each.
-fn run<W: Write>(
-    out: &mut W,
-    memory: &mut Cache<LaggingMemory>,
-    input: &[u8],
-) -> anyhow::Result<()> {
-    let mut state = State::Off;
-    let mut line = [0u8; LINE];
-    let mut rest = input;
-    while let Some(turn) = take_turn(&mut state, memory, rest, &mut line) {
-        out.write_all(&line[0..turn.written])?;
-        rest = turn.rest;
-    }
-    Ok(())
-}
-
 fn main(rt: HostRuntime) -> anyhow::Result<()> {
     let heap = rt.alloc();
     let mut input = Vec::new(heap);
     rt.stdin().take(INPUT).read_to_end(&mut input)?;
     let mut memory = Cache::new(LaggingMemory::new(heap, WORDS, GIVEN)?);
-    run(&mut rt.stdout(), &mut memory, &input)
+    run(&mut rt.stdout(), &mut State::Off, &mut memory, &input)?;
+    Ok(())
 }

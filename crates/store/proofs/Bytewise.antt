@@ -1,5 +1,5 @@
 -- A file of the table as a read finds it, and its bytes as they are loaded. Assumes nothing.
-use Rattle.std.proofs.Common.{◌≡◌, ℕ, ◌+◌, ◌-◌, ◌*◌, ◌/◌, ◌%◌, ◌^◌, ◌<◌, ◌≤◌, min, Bool, true, false, cond, eqb, List, [], ◌∷◌, ◌++◌, length, get_or, take, drop, replicate, IsErrAnd, Some, None, Ok, Err, Result, sym, refl, ap, ◌∙◌, subst, inl, inr, ⊎_elim, arith}
+use Rattle.std.proofs.Common.{◌≡◌, ℕ, ◌+◌, ◌-◌, ◌*◌, ◌/◌, ◌%◌, ◌^◌, ◌<◌, ◌≤◌, min, Bool, true, false, cond, eqb, List, [], ◌∷◌, ◌++◌, length, take, drop, replicate, IsErrAnd, Some, None, Ok, Err, Result, sym, refl, ap, ◌∙◌, subst, inl, inr, ⊎_elim, arith}
 use borrow.Rule.Slice.PartMut.{put_mid}
 use lib.Bits.{bit_and}
 use Rattle.std.proofs.lemmas.Nat.{and_mask}
@@ -24,6 +24,7 @@ use Rattle.images.proofs.Pieces.{slot-data}
 use Rattle.images.proofs.Slots.{find_none, find-slot, bytes-length}
 use Rattle.image_check.specs.Answers.{RefusedBy}
 use Rattle.image_check.specs.Check.{MapGood}
+use Rattle.image_check.specs.Directory.{slot_at}
 use Rattle.image_check.specs.Reading.{Looked, LookedDown}
 use Rattle.image_check.specs.Size.{suits}
 use Rattle.image_check.specs.declared.image.Survey.{Survey}
@@ -134,7 +135,7 @@ looked-changed {m} {n} blocks name offset count big size clean looked =
     }
 
 -- once the image is opened, and a slot has the name
-module _ {m k : Model} (s : Survey) (name : List ℕ) (slot word root : ℕ) (b : Known m k s) (formed : well_formed name ≡ true) (bytes : bytes_of word ≡ name) (found : (slot < 16) × (get_or s.directory.names slot 0 ≡ word)) (at : get_or s.directory.roots slot 0 ≡ root) where
+module _ {m k : Model} (s : Survey) (name : List ℕ) (slot word root : ℕ) (b : Known m k s) (formed : well_formed name ≡ true) (bytes : bytes_of word ≡ name) (found : (slot < 16) × ((slot_at s.directory slot).name ≡ word)) (at : (slot_at s.directory slot).root ≡ root) where
   is_name : name_of m.seen slot ≡ name
   is_name = ap bytes_of (sym (b.lists.names slot found.0) ∙ found.1) ∙ bytes
 
@@ -207,7 +208,7 @@ module _ {m k : Model} (s : Survey) (name : List ℕ) (slot word root : ℕ) (b 
       })))
 
 -- no slot has the name
-pub file-none : {m k : Model} (s : Survey) (name : List ℕ) (offset count word : ℕ) → Known m k s → well_formed name ≡ true → bytes_of word ≡ name → ((u : ℕ) → u < 16 → bytes_of (get_or s.directory.names u 0) ≡ bytes_of word → ⊥) → FileCall m (read name offset count) (refuse 4) k
+pub file-none : {m k : Model} (s : Survey) (name : List ℕ) (offset count word : ℕ) → Known m k s → well_formed name ≡ true → bytes_of word ≡ name → ((u : ℕ) → u < 16 → bytes_of ((slot_at s.directory u).name) ≡ bytes_of word → ⊥) → FileCall m (read name offset count) (refuse 4) k
 file-none {m} {k} s name offset count word b formed bytes none =
     answered-refused s (read name offset count) NoFile b (read-early name offset count formed)
     (read_none (table_of m.seen) name offset count formed (find_none m.seen name (λ u lt _ e. none u lt (ap bytes_of (b.lists.names u lt) ∙ e ∙ sym bytes))))

@@ -7,7 +7,7 @@ use Rattle.layout.specs.Image.{table_of}
 use Rattle.layout.specs.Log.{Clean, FirstBusy}
 use Rattle.layout.specs.Table.{Ask, Reply, early, answer}
 use Rattle.images.proofs.Holding.{clean-leads}
-use Rattle.image_check.specs.Answers.{RefusedBy}
+use Rattle.image_check.specs.Answers.{RefusedBy, rule_number}
 use Rattle.image_check.specs.Directory.{Lists}
 use Rattle.image_check.specs.Reading.{Looked, LookedDown}
 use Rattle.image_check.specs.Size.{suits}
@@ -79,7 +79,7 @@ refused-some WrongSize h = omega arith
 
 took-refused : (blocks : ℕ) (m n : Model) (a : Ask) (e : Refusal) → 6 ≤ blocks → 32 * blocks ≤ m.count → RefusedBy e (LookedDown m n) (λ k. Looked m n × FirstBusy k blocks m.seen) → Took blocks m a (refused_reply e) n
 took-refused blocks m n a PowerLost big size h = inl (refl, looked-cut blocks m n a big size h)
-took-refused blocks m n a (BadImage k) big size h = inr (inl (k, refl, h.0, h.1))
+took-refused blocks m n a (BadImage rule) big size h = inr (inl (rule_number rule, refl, h.0, h.1))
 took-refused blocks m n a BadName big size h = absurd h
 took-refused blocks m n a NoFile big size h = absurd h
 took-refused blocks m n a NameTaken big size h = absurd h

@@ -1,5 +1,5 @@
 -- What the look_up of a name says of the files, and the changes of a slot that the calls make. Assumes nothing.
-use Rattle.std.proofs.Common.{◌≡◌, ℕ, ◌+◌, ◌*◌, ◌<◌, ◌≤◌, Bool, true, false, cond, not, eqb, leb, ◌⊎◌, List, [], ◌∷◌, ◌++◌, length, get_or, take, Some, None, Option, sym, refl, ap, ◌∙◌, subst, inl, inr, arith}
+use Rattle.std.proofs.Common.{◌≡◌, ℕ, ◌+◌, ◌*◌, ◌<◌, ◌≤◌, Bool, true, false, cond, not, eqb, leb, ◌⊎◌, List, [], ◌∷◌, ◌++◌, length, take, Some, None, Option, sym, refl, ap, ◌∙◌, subst, inl, inr, arith}
 use Rattle.std.proofs.lemmas.Bool.{le-leb, lt-leb, eq-eqb, ne_eqb}
 use Rattle.memory.specs.Bytes.{bytes_of}
 use Rattle.memory.specs.Stores.{Words, word, one}
@@ -14,8 +14,8 @@ use Rattle.images.proofs.Naming.{New, removing, renaming, clearing, creating}
 use Rattle.images.proofs.Rearranging.{rearranged-refl}
 use Rattle.images.proofs.Shortening.{shortening}
 use Rattle.images.proofs.Slots.{find-slot, find_none, slots-room, bytes-length}
-use Rattle.image_check.specs.Directory.{Lists}
-use Rattle.image_check.specs.declared.reading.Directory.{Directory}
+use Rattle.image_check.specs.Directory.{slot_at, Lists}
+use Rattle.image_check.specs.declared.directory.Directory.{Directory}
 use Rattle.store.proofs.Phasing.{SlotChange}
 
 same-items : {X : Type 0} {xs ys : List X} → xs ≡ ys → Rearranged xs ys
@@ -23,7 +23,7 @@ same-items {X} {xs} {ys} e = subst (λ zs. Rearranged xs zs) e (rearranged-refl 
 
 -- no slot has the bytes of a word
 abbrev pub Missing : Directory → ℕ → Type 0
-Missing d x = (s : ℕ) → s < 16 → bytes_of (get_or d.names s 0) ≡ bytes_of x → ⊥
+Missing d x = (s : ℕ) → s < 16 → bytes_of ((slot_at d s).name) ≡ bytes_of x → ⊥
 
 module _ (w : Words) (d : Directory) (lists : Lists w d) where
   pub missing-new : (x : ℕ) → Missing d x → New w (bytes_of x)
@@ -32,13 +32,13 @@ module _ (w : Words) (d : Directory) (lists : Lists w d) where
   pub missing-none : (x : ℕ) (name : List ℕ) → Missing d x → bytes_of x ≡ name → find name (files_of w) ≡ None
   missing-none x name h bytes = find_none w name (λ s lt nm e. missing-new x h s lt nm (e ∙ sym bytes))
 
-  pub found_name : (x s : ℕ) (name : List ℕ) → s < 16 → get_or d.names s 0 ≡ x → bytes_of x ≡ name → name_of w s ≡ name
+  pub found_name : (x s : ℕ) (name : List ℕ) → s < 16 → (slot_at d s).name ≡ x → bytes_of x ≡ name → name_of w s ≡ name
   found_name x s name lt is bytes = ap bytes_of (sym (lists.names s lt) ∙ is) ∙ bytes
 
-  pub found-named : (x s : ℕ) (name : List ℕ) → s < 16 → get_or d.names s 0 ≡ x → bytes_of x ≡ name → well_formed name ≡ true → named w s ≡ true
+  pub found-named : (x s : ℕ) (name : List ℕ) → s < 16 → (slot_at d s).name ≡ x → bytes_of x ≡ name → well_formed name ≡ true → named w s ≡ true
   found-named x s name lt is bytes formed = formed-named w s (ap well_formed (found_name x s name lt is bytes) ∙ formed)
 
-  pub empty-slot : (s : ℕ) → s < 16 → get_or d.names s 0 ≡ 0 → named w s ≡ false
+  pub empty-slot : (s : ℕ) → s < 16 → (slot_at d s).name ≡ 0 → named w s ≡ false
   empty-slot s lt is = ap not (eq-eqb (name_word w s) 0 (sym (lists.names s lt) ∙ is))
 
   pub all_named : Missing d 0 → (s : ℕ) → s < 16 → named w s ≡ true
@@ -126,7 +126,7 @@ module _ (blocks : ℕ) (w : Words) (s : ℕ) (big : 6 ≤ blocks) (clean : Clea
       off-directory i (inr more) e = omega arith
 
 -- the file that a look_up finds
-pub look_up : (blocks : ℕ) (w : Words) (d : Directory) → 6 ≤ blocks → Clean blocks w → Lists w d → (s x : ℕ) (name : List ℕ) → well_formed name ≡ true → s < 16 → get_or d.names s 0 ≡ x → bytes_of x ≡ name → find name (files_of w) ≡ Some (file_bytes w (root_word w s))
+pub look_up : (blocks : ℕ) (w : Words) (d : Directory) → 6 ≤ blocks → Clean blocks w → Lists w d → (s x : ℕ) (name : List ℕ) → well_formed name ≡ true → s < 16 → (slot_at d s).name ≡ x → bytes_of x ≡ name → find name (files_of w) ≡ Some (file_bytes w (root_word w s))
 look_up blocks w d big clean lists s x name formed lt is bytes = found-file blocks w s big clean lt name (found-named w d lists x s name lt is bytes formed) (found_name w d lists x s name lt is bytes)
 
 -- what the table answers, by what is found

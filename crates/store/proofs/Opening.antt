@@ -9,6 +9,7 @@ use Rattle.image_check.specs.Size.{suits}
 use Rattle.image_check.specs.declared.image.Survey.{Survey}
 use Rattle.image_check.specs.declared.refusal.Refusal.{Refusal}
 use Rattle.image_check.specs.declared.refusal.Refusal.TheVariants.{PowerLost, BadImage}
+use Rattle.image_check.specs.declared.refusal.Rule.TheVariants.{LogEntry}
 use Rattle.image_check.proofs.Looking.{looked-more, looked-down, refused-map}
 use Rattle.image_check.proofs.Sizing.{size-enough}
 use Rattle.store.specs.Calls.{Opened, Opens}
@@ -36,11 +37,11 @@ opens-cut {m} k n s e (Err y) h p checks down =
 state-is : {m k : Model} (x : ℕ) → suits m.count ≡ true → Looked m k → x ≡ k.seen 8 → x ≡ state m.seen
 state-is {m} x t looked e = let big = size-enough m.count t in e ∙ looked.seen 8 (omega arith)
 
-pub opens-busy : {m : Model} (k n : Model) (s : Survey) (x : ℕ) → Surveys m (Ok s) k → Looked k n × (x ≡ k.seen 8) → (x ≡ 0 → ⊥) → Opens m (Err (BadImage 6)) n
+pub opens-busy : {m : Model} (k n : Model) (s : Survey) (x : ℕ) → Surveys m (Ok s) k → Looked k n × (x ≡ k.seen 8) → (x ≡ 0 → ⊥) → Opens m (Err (BadImage LogEntry)) n
 opens-busy {m} k n s x checks load some =
     let t = sound-size k s checks in
     let h = checks.taken t in
-    opens-taken n (Err (BadImage 6)) t (looked-more h.0 load.0, inr (refl, h.1, λ z. some (state-is {m = m} {k = k} x t h.0 load.1 ∙ z)))
+    opens-taken n (Err (BadImage LogEntry)) t (looked-more h.0 load.0, inr (refl, h.1, λ z. some (state-is {m = m} {k = k} x t h.0 load.1 ∙ z)))
 
 pub opens-done : {m : Model} (k n : Model) (s : Survey) (x : ℕ) → Surveys m (Ok s) k → Looked k n × (x ≡ k.seen 8) → x ≡ 0 → Opens m (Ok s) n
 opens-done {m} k n s x checks load none =

@@ -15,6 +15,7 @@ use Rattle.images.proofs.Pieces.{file-data, putting_back-same, undoing-same}
 use Rattle.images.proofs.Recovering.{Torn, undone-same, recovered-idle, recovered-clean, recovered-same, leads_to_files-same, leads_to_files-undoing, leads_to_files-undone, leads_to_files-freeing}
 use Rattle.image_check.specs.Reading.{Looked, LookedDown}
 use Rattle.store.specs.Phase.{Drawn, AllMade, CutIn}
+use Rattle.layout.specs.Packed.{state_number}
 use Rattle.store.specs.LogEntry.{Tells}
 use Rattle.store.specs.Recover.{RecoverDone, RecoverCut, Puttable, taken_back, TakenBack}
 use Rattle.store.specs.declared.log_entry.LogEntry.{LogEntry}
@@ -50,7 +51,7 @@ second-piece {m} {k} x y old size first second log made =
     (λ j lt. made.made.seen (old + j) (omega arith) made.up ∙ put-back-low m.count m.seen m.seen x 32 (old + j) first (omega arith))
 
 -- what the entry tells
-pub tells-undone : (w : Words) (e : LogEntry) (root : ℕ) → Tells w e → root ≡ root_word w (log_slot w) → eqb e.state 1 || (eqb e.state 2 && e.mark.follow && eqb root e.old) ≡ undone w
+pub tells-undone : (w : Words) (e : LogEntry) (root : ℕ) → Tells w e → root ≡ root_word w (log_slot w) → eqb (state_number e.state) 1 || (eqb (state_number e.state) 2 && e.mark.follow && eqb root e.old) ≡ undone w
 tells-undone w e root h r = let s = h.state in let f = h.follow in let o = h.old in cc
 
 pub tells-pieces : (w : Words) (e : LogEntry) → Tells w e → putting_back w e.start 32 ++ putting_back w e.end 48 ≡ undoing w

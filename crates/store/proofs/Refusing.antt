@@ -1,5 +1,5 @@
 -- What recovery answers once the image is checked. Assumes nothing.
-use Rattle.std.proofs.Common.{◌≡◌, ℕ, ◌+◌, ◌*◌, ◌/◌, ◌%◌, ◌^◌, ◌<◌, ◌≤◌, Bool, true, false, eqb, get_or, IsErrAnd, Ok, Err, Result, sym, refl, ap, ◌∙◌, subst, ⊎_elim, arith}
+use Rattle.std.proofs.Common.{◌≡◌, ℕ, ◌+◌, ◌*◌, ◌/◌, ◌%◌, ◌^◌, ◌<◌, ◌≤◌, Bool, true, false, eqb, IsErrAnd, Ok, Err, Result, sym, refl, ap, ◌∙◌, subst, ⊎_elim, arith}
 use Rattle.std.proofs.lemmas.Bool.{true≢false, cases_Bool}
 use Rattle.memory.specs.Model.{Model}
 use Rattle.memory.specs.Stores.{Words}
@@ -9,12 +9,15 @@ use Rattle.image_check.specs.Size.{suits}
 use Rattle.image_check.specs.declared.image.Survey.{Survey}
 use Rattle.image_check.specs.declared.refusal.Refusal.{Refusal}
 use Rattle.image_check.specs.declared.refusal.Refusal.TheVariants.{PowerLost, WrongSize}
-use Rattle.image_check.specs.Directory.{Lists}
+use Rattle.image_check.specs.Directory.{slot_at, Lists}
 use Rattle.image_check.specs.Reading.{Looked}
 use Rattle.image_check.proofs.Looking.{looked-more, refused-map}
 use Rattle.image_check.proofs.Sizing.{size-blocks}
 use Rattle.layout.specs.Image.{root_word}
 use Rattle.layout.specs.Log.{state, log_slot, GoodPiece, Sound}
+use Rattle.layout.specs.Packed.{state_number}
+use Rattle.layout.specs.declared.log.LogState.{LogState}
+use Rattle.layout.specs.declared.log.LogState.TheVariants.{Free, Commit, Checkpoint}
 use Rattle.store.specs.LogEntry.{Tells}
 use Rattle.store.specs.Recover.{Puttable, RecoverCut, Recovering, Recovers}
 use Rattle.store.specs.declared.log_entry.LogEntry.{LogEntry}
@@ -87,10 +90,16 @@ pub cut-exit : {m : Model} (n : Model) (e : Refusal) (r : Result Bool Refusal) �
 cut-exit n e (Ok x) h p t cut = absurd h
 cut-exit {m} n e (Err y) h p t cut = subst (λ x. Recovers m (Err x) n) (sym (h ∙ p)) (recovers-taken n (Err PowerLost) t cut)
 
+-- the free state alone has the number 0
+zero-free : (s : LogState) → state_number s ≡ 0 → s ≡ Free
+zero-free Free h = refl
+zero-free Commit h = absurd (omega arith)
+zero-free Checkpoint h = absurd (omega arith)
+
 -- The entry of a log that is not free, after those loads.
-module _ {m k : Model} (s : Survey) (e : LogEntry) (b : Begun m k s e) (some : e.state ≡ 0 → ⊥) where
+module _ {m k : Model} (s : Survey) (e : LogEntry) (b : Begun m k s e) (some : e.state ≡ Free → ⊥) where
   pub busy : state m.seen ≡ 0 → ⊥
-  busy z = some (b.tells.state ∙ z)
+  busy z = some (zero-free e.state (b.tells.state ∙ z))
 
   low : (i : ℕ) → i < 96 → m.seen i ≡ k.seen i
   low i lt = sym (b.looked.seen i (omega (arith, b.big, b.size)))
@@ -101,11 +110,11 @@ module _ {m k : Model} (s : Survey) (e : LogEntry) (b : Begun m k s e) (some : e
   pub tells-later : Tells k.seen e
   tells-later = tells-moved m.seen k.seen e low b.tells
 
-  pub root-later : (slot root : ℕ) → slot ≡ e.mark.slot → root ≡ get_or s.directory.roots slot 0 → root ≡ root_word k.seen (log_slot k.seen)
+  pub root-later : (slot root : ℕ) → slot ≡ e.mark.slot → root ≡ (slot_at s.directory slot).root → root ≡ root_word k.seen (log_slot k.seen)
   root-later slot root is r =
       let inside = slot-inside in
       let here : e.mark.slot ≡ log_slot k.seen = tells-later.slot in
-      r ∙ ap (λ x. get_or s.directory.roots x 0) is ∙ b.lists.roots e.mark.slot inside ∙ low (64 + (2 * e.mark.slot + 1)) (omega arith) ∙ ap (root_word k.seen) here
+      r ∙ ap (λ x. (slot_at s.directory x).root) is ∙ b.lists.roots e.mark.slot inside ∙ low (64 + (2 * e.mark.slot + 1)) (omega arith) ∙ ap (root_word k.seen) here
 
   puttable-later : (x y : ℕ) → y ≡ x → GoodPiece m.seen x → Puttable k.count y
   puttable-later x y is good =

@@ -6,7 +6,7 @@ use Rattle.layout.specs.Image.{in_block, named, name_of, slot_blocks, table_of}
 use Rattle.layout.specs.Lists.{member}
 use Rattle.layout.specs.Log.{Clean, FirstBusy, HoldsFiles, LeadsToFiles}
 use Rattle.layout.specs.Table.{Table, Ask, Reply, done, refuse, early, on, answer, after}
-use Rattle.image_check.specs.Answers.{RefusedBy}
+use Rattle.image_check.specs.Answers.{RefusedBy, rule_number}
 use Rattle.image_check.specs.Directory.{Lists}
 use Rattle.image_check.specs.Reading.{Looked, LookedDown}
 use Rattle.image_check.specs.Size.{suits}
@@ -22,7 +22,7 @@ broken k = record { number = 2; carries = k ∷ [] }
 -- the reply of an answer: what it carries, or the number of the refusal
 abbrev pub refused_reply : Refusal → Reply
 refused_reply PowerLost = refuse 1
-refused_reply (BadImage k) = broken k
+refused_reply (BadImage rule) = broken (rule_number rule)
 refused_reply BadName = refuse 3
 refused_reply NoFile = refuse 4
 refused_reply NameTaken = refuse 5

@@ -5,18 +5,10 @@ ghost use Rattle.store.specs.Phase.{Persisted};
 use crate::phase::{clear_run, persist_word, settle, store_word};
 use image_check::refusal::Refusal;
 use image_check::size::blocks_in;
+use layout::place::{BLOCK_COUNT, LOG_STATE, SLOTS};
 use memory::memory::Memory;
 
-// the word that holds the count of blocks
-const BLOCKS: u64 = 0;
-
-// the word that holds the state of the log
-const STATE: u64 = 8;
-
-// the first word of the sixteen slots
-const SLOTS: u64 = 64;
-
-// the word after the last of them
+// the word after the last of the slots
 const SLOTS_END: u64 = 96;
 
 // The phase that clears the state of the log and the slots.
@@ -25,7 +17,7 @@ fn clear<M: Memory>(memory: &mut M) -> Result<(), Refusal>
     ensures done { Persisted (M.Memory.model memory.old) clearing result (M.Memory.model memory.new) }
     ensures lent { M.Memory.lent memory.new ≡ M.Memory.lent memory.old }
 {
-    store_word(memory, STATE, 0)?;
+    store_word(memory, LOG_STATE, 0)?;
     clear_run(memory, SLOTS, SLOTS_END)?;
     settle(memory)
 }
@@ -38,7 +30,7 @@ pub fn format<M: Memory>(memory: &mut M) -> Result<(), Refusal>
     let Some(blocks) = blocks_in(memory.count()) else {
         return Err(Refusal::WrongSize);
     };
-    persist_word(memory, BLOCKS, 0)?;
+    persist_word(memory, BLOCK_COUNT, 0)?;
     clear(memory)?;
-    persist_word(memory, BLOCKS, blocks)
+    persist_word(memory, BLOCK_COUNT, blocks)
 }

@@ -6,10 +6,8 @@ use crate::open::{find_slot, open};
 use crate::phase::persist_word;
 use image_check::refusal::Refusal;
 use layout::name::{Name, is_well_formed, name_word};
+use layout::place::SLOTS;
 use memory::memory::Memory;
-
-// the first word of the slots; the name word of a slot is followed by its root word
-const SLOTS: u64 = 64;
 
 // the name word of an empty slot
 const EMPTY: u64 = 0;
@@ -24,10 +22,10 @@ pub fn create<M: Memory>(memory: &mut M, name: Name) -> Result<(), Refusal>
     }
     let survey = open(memory)?;
     let word = name_word(name);
-    if let Some(_) = find_slot(&survey.directory.names, word) {
+    if let Some(_) = find_slot(&survey.directory, word) {
         return Err(Refusal::NameTaken);
     }
-    let Some(slot) = find_slot(&survey.directory.names, EMPTY) else {
+    let Some(slot) = find_slot(&survey.directory, EMPTY) else {
         return Err(Refusal::TooManyFiles);
     };
     persist_word(memory, SLOTS + (2 * slot as u64 + 1), 0)?;
@@ -46,11 +44,11 @@ pub fn rename<M: Memory>(memory: &mut M, name: Name, new: Name) -> Result<(), Re
         return Err(Refusal::BadName);
     }
     let survey = open(memory)?;
-    let Some(slot) = find_slot(&survey.directory.names, name_word(name)) else {
+    let Some(slot) = find_slot(&survey.directory, name_word(name)) else {
         return Err(Refusal::NoFile);
     };
     let word = name_word(new);
-    if let Some(_) = find_slot(&survey.directory.names, word) {
+    if let Some(_) = find_slot(&survey.directory, word) {
         return Err(Refusal::NameTaken);
     }
     persist_word(memory, SLOTS + 2 * slot as u64, word)
@@ -65,7 +63,7 @@ pub fn remove<M: Memory>(memory: &mut M, name: Name) -> Result<(), Refusal>
         return Err(Refusal::BadName);
     }
     let survey = open(memory)?;
-    let Some(slot) = find_slot(&survey.directory.names, name_word(name)) else {
+    let Some(slot) = find_slot(&survey.directory, name_word(name)) else {
         return Err(Refusal::NoFile);
     };
     persist_word(memory, SLOTS + 2 * slot as u64, EMPTY)

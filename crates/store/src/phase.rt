@@ -13,10 +13,7 @@ pub(crate) fn load_word<M: Memory>(memory: &mut M, at: u64) -> Result<u64, Refus
     ensures reads { Reads (M.Memory.model memory.old) (λ v. v ≡ (M.Memory.model memory.old).seen at) result (M.Memory.model memory.new) }
     ensures lent { M.Memory.lent memory.new ≡ M.Memory.lent memory.old }
 {
-    match memory.load(at) {
-        Ok(value) => Ok(value),
-        Err(_) => Err(Refusal::PowerLost),
-    }
+    Ok(memory.load(at)?)
 }
 
 // Stores a value in a word of the memory.
@@ -25,10 +22,7 @@ pub(crate) fn store_word<M: Memory>(memory: &mut M, at: u64, value: u64) -> Resu
     ensures made { Storing (M.Memory.model memory.old) (word at value ∷ []) result (M.Memory.model memory.new) }
     ensures lent { M.Memory.lent memory.new ≡ M.Memory.lent memory.old }
 {
-    match memory.store(at, value) {
-        Ok(()) => Ok(()),
-        Err(_) => Err(Refusal::PowerLost),
-    }
+    Ok(memory.store(at, value)?)
 }
 
 // Stores zero in each word from `first` to just before `end`, in a memory that is up.
@@ -71,10 +65,7 @@ pub(crate) fn settle<M: Memory>(memory: &mut M) -> Result<(), Refusal>
     ensures done { Persisted (M.Memory.model memory.old) [] result (M.Memory.model memory.new) }
     ensures lent { M.Memory.lent memory.new ≡ M.Memory.lent memory.old }
 {
-    match memory.barrier() {
-        Ok(()) => Ok(()),
-        Err(_) => Err(Refusal::PowerLost),
-    }
+    Ok(memory.barrier()?)
 }
 
 // A whole phase: stores each value at its place, and lets a barrier settle them.

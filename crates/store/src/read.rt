@@ -10,7 +10,7 @@ use crate::open::{find_slot, open};
 use crate::phase::load_word;
 use image_check::refusal::Refusal;
 use layout::name::{Name, is_well_formed, name_word};
-use layout::place::split;
+use layout::place::{BLOCK_WORDS, split};
 use layout::root::Root;
 use memory::memory::Memory;
 
@@ -23,8 +23,8 @@ fn load_byte<M: Memory>(memory: &mut M, map: u64, at: u64) -> Result<u8, Refusal
     ensures lent { M.Memory.lent memory.new ≡ M.Memory.lent memory.old }
 {
     let (k, place) = split(at);
-    let block = load_word(memory, 32 * map + k)?;
-    let word = load_word(memory, 32 * block + place / 8)?;
+    let block = load_word(memory, BLOCK_WORDS * map + k)?;
+    let word = load_word(memory, BLOCK_WORDS * block + place / 8)?;
     Ok(((word >> (8 * (place % 8))) & 0xff) as u8)
 }
 
@@ -44,9 +44,9 @@ fn load_bytes<M: Memory>(
     ensures reads { Reads (M.Memory.model memory.old) (λ _. out.new ≡ bytes_from (M.Memory.model memory.old).seen (map_of root) offset (length out.old)) result (M.Memory.model memory.new) }
     ensures lent { M.Memory.lent memory.new ≡ M.Memory.lent memory.old }
 {
-    let map = u64::from(Root::from_word(root).map);
-    for k in 0..out.len() {
-        out[k] = load_byte(memory, map, offset + k as u64)?;
+    let map = u64::from(Root::from(root).map);
+    for (k, byte) in out.iter_mut().enumerate() {
+        *byte = load_byte(memory, map, offset + k as u64)?;
     }
     Ok(())
 }
@@ -74,11 +74,11 @@ fn read_into<M: Memory>(
         return Err(Refusal::BadName);
     }
     let survey = open(memory)?;
-    let Some(slot) = find_slot(&survey.directory.names, name_word(name)) else {
+    let Some(slot) = find_slot(&survey.directory, name_word(name)) else {
         return Err(Refusal::NoFile);
     };
-    let root = survey.directory.roots[slot];
-    let rest = Root::from_word(root).length.saturating_sub(offset);
+    let root = survey.directory.slots[slot].root;
+    let rest = Root::from(root).length.saturating_sub(offset);
     let given = buffer.len().min(rest as usize);
     clear_bytes(&mut buffer[given..]);
     load_bytes(memory, root, u64::from(offset), &mut buffer[..given])?;
@@ -98,11 +98,9 @@ pub fn read<M: Memory>(
     ensures filled { Filled (M.Memory.model memory.old) name offset result buffer.old buffer.new }
     ensures lent { M.Memory.lent memory.new ≡ M.Memory.lent memory.old }
 {
-    match read_into(memory, name, offset, buffer) {
-        Ok(count) => Ok(count),
-        Err(refusal) => {
-            clear_bytes(buffer);
-            Err(refusal)
-        }
+    let answer = read_into(memory, name, offset, buffer);
+    if answer.is_err() {
+        clear_bytes(buffer);
     }
+    answer
 }

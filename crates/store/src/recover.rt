@@ -10,7 +10,8 @@ use crate::log_entry::{LogEntry, load_log_entry};
 use crate::phase::{copy_run, persist_word, settle};
 use image_check::image::survey_image;
 use image_check::refusal::Refusal;
-use layout::log::Piece;
+use layout::log::{LogState, Piece};
+use layout::place::{BLOCK_WORDS, LOG_STATE};
 use memory::memory::Memory;
 
 // Puts the words of a piece back from where the log keeps the old ones.
@@ -31,7 +32,7 @@ fn put_back<M: Memory>(memory: &mut M, word: u64, old: u64) -> Result<(), Refusa
     else {
         return Ok(());
     };
-    let to = 32 * u64::from(block) + u64::from(first);
+    let to = BLOCK_WORDS * u64::from(block) + u64::from(first);
     copy_run(memory, old, to, u64::from(count))
 }
 
@@ -75,11 +76,11 @@ pub fn recover<M: Memory>(memory: &mut M) -> Result<bool, Refusal>
 {
     let survey = survey_image(memory)?;
     let entry = load_log_entry(memory)?;
-    if entry.state == 0 {
+    if entry.state == LogState::Free {
         return Ok(false);
     }
-    let root = survey.directory.roots[usize::from(entry.mark.slot)];
+    let root = survey.directory.slots[usize::from(entry.mark.slot)].root;
     let put = take_back(memory, &entry, root)?;
-    persist_word(memory, 8, 0)?;
+    persist_word(memory, LOG_STATE, 0)?;
     Ok(put)
 }

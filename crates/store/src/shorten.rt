@@ -6,11 +6,9 @@ use crate::open::{find_slot, open};
 use crate::phase::persist_word;
 use image_check::refusal::Refusal;
 use layout::name::{Name, is_well_formed, name_word};
+use layout::place::SLOTS;
 use layout::root::Root;
 use memory::memory::Memory;
-
-// the first word of the slots; the name word of a slot is followed by its root word
-const SLOTS: u64 = 64;
 
 // The root word of a file cut to that length; an empty file has no map.
 fn short_root(root: Root, length: u32) -> u64
@@ -19,11 +17,10 @@ fn short_root(root: Root, length: u32) -> u64
     if length == 0 {
         return 0;
     }
-    Root {
+    u64::from(Root {
         map: root.map,
         length,
-    }
-    .to_word()
+    })
 }
 
 // Keeps the first bytes of a file.
@@ -35,10 +32,10 @@ pub fn shorten<M: Memory>(memory: &mut M, name: Name, length: u32) -> Result<(),
         return Err(Refusal::BadName);
     }
     let survey = open(memory)?;
-    let Some(slot) = find_slot(&survey.directory.names, name_word(name)) else {
+    let Some(slot) = find_slot(&survey.directory, name_word(name)) else {
         return Err(Refusal::NoFile);
     };
-    let root = Root::from_word(survey.directory.roots[slot]);
+    let root = Root::from(survey.directory.slots[slot].root);
     if length > root.length {
         return Err(Refusal::TooLong);
     }

@@ -15,23 +15,19 @@ fn answer(rt: &impl Abort, heap: Global, words: usize) -> Result<Result<(), Refu
 
 #[test]
 fn the_size_is_32_times_6_to_4096(rt: HostRuntime) -> Result<(), Fail> {
+    let wrong = Err(Refusal::WrongSize);
     let cases = [
-        (0, false),
-        (186, false),
-        (191, false),
-        (192, true),
-        (193, false),
-        (224, true),
-        (131072, true),
-        (131073, false),
-        (131104, false),
+        (0, wrong),
+        (186, wrong),
+        (191, wrong),
+        (192, Ok(())),
+        (193, wrong),
+        (224, Ok(())),
+        (131072, Ok(())),
+        (131073, wrong),
+        (131104, wrong),
     ];
-    for (words, taken) in cases {
-        let expected = if taken {
-            Ok(())
-        } else {
-            Err(Refusal::WrongSize)
-        };
+    for (words, expected) in cases {
         assert_eq!(rt; answer(&rt, rt.alloc(), words)?, expected);
     }
     Ok(())

@@ -2,6 +2,8 @@
 
 // Tests of the calls on the bottom memories.
 #[cfg(test)]
+mod bench;
+#[cfg(test)]
 mod format_tests;
 #[cfg(test)]
 mod image_tests;

@@ -1,8 +1,12 @@
-use image_check::refusal::Refusal;
+ghost use Rattle.std.specs.Prelude.{◌<◌};
+
+use crate::bench::{image_in, store_words};
+use image_check::refusal::{Refusal, Rule};
 use layers::cache::Cache;
 use media::byte_image::ByteImage;
 use media::lagging::LaggingMemory;
 use memory::cut_point::CutPoint;
+use memory::fault::Fault;
 use memory::memory::Memory;
 use std::process::Abort;
 use std::test::Fail;
@@ -30,12 +34,6 @@ struct Run {
     count: u8,
 }
 
-const NO_RUN: Run = Run {
-    to: 0,
-    from: 0,
-    count: 0,
-};
-
 // What is put back of `START` and of `END`.
 const START_RUN: Run = Run {
     to: 189,
@@ -49,16 +47,14 @@ const END_RUN: Run = Run {
     count: 2,
 };
 
-const NONE: [Run; 2] = [NO_RUN, NO_RUN];
-
-const BOTH: [Run; 2] = [START_RUN, END_RUN];
+const BOTH: &[Run] = &[START_RUN, END_RUN];
 
 // Words 8 to 12 before recovery, what it puts back, and what it answers.
 #[derive(Clone, Copy)]
 struct Case {
     name: &'static str,
     entry: [u64; 5],
-    put: [Run; 2],
+    put: &'static [Run],
     answer: bool,
 }
 
@@ -72,7 +68,7 @@ const CASES: [Case; 4] = [
     Case {
         name: "checkpoint, no follow mark",
         entry: [2, 5, ROOT, START, END],
-        put: NONE,
+        put: &[],
         answer: false,
     },
     Case {
@@ -84,28 +80,24 @@ const CASES: [Case; 4] = [
     Case {
         name: "checkpoint, follow mark, the old root word has another length",
         entry: [2, 0x105, 0x0000_012b_0000_0003, START, END],
-        put: NONE,
+        put: &[],
         answer: false,
     },
 ];
 
 // Makes the image with the entry of a case in a memory that is up.
-fn fill<M: Memory>(memory: &mut M, case: Case) -> Result<(), Fail> {
+fn fill<M: Memory>(memory: &mut M, case: Case) -> Result<(), Fault> {
     for at in 0..memory.count() {
         memory.store(at, REST | at)?;
     }
     for slot in 0..16 {
         memory.store(64 + 2 * slot, 0)?;
     }
-    for word in IMAGE {
-        memory.store(word.0, word.1)?;
+    store_words(memory, &IMAGE)?;
+    for (at, value) in (8..13).zip(case.entry) {
+        memory.store(at, value)?;
     }
-    let [state, mark, root, start, end] = case.entry;
-    for word in [(8, state), (9, mark), (10, root), (11, start), (12, end)] {
-        memory.store(word.0, word.1)?;
-    }
-    memory.barrier()?;
-    Ok(())
+    memory.barrier()
 }
 
 // The place so many words on.
@@ -116,8 +108,7 @@ fn later(place: u8, by: u8) -> u64 {
 // Checks that each word is what recovery is to leave in a case.
 fn check_words<M: Memory>(rt: &impl Abort, memory: &mut M, case: Case) -> Result<(), Fail> {
     let mut bytes = [0; 1536];
-    let mut expected = ByteImage::new(&mut bytes);
-    assert!(rt; expected.restart());
+    let mut expected = image_in(rt, &mut bytes);
     fill(&mut expected, case)?;
     for run in case.put {
         for j in 0..run.count {
@@ -139,8 +130,7 @@ fn check_words<M: Memory>(rt: &impl Abort, memory: &mut M, case: Case) -> Result
 // Recovers the image of a case twice.
 fn recovers(rt: &impl Abort, case: Case) -> Result<(), Fail> {
     let mut bytes = [0; 1536];
-    let mut memory = ByteImage::new(&mut bytes);
-    assert!(rt; memory.restart());
+    let mut memory = image_in(rt, &mut bytes);
     fill(&mut memory, case)?;
     assert_eq!(rt; recover(&mut memory), Ok(case.answer), "{}", case.name);
     check_words(rt, &mut memory, case)?;
@@ -148,12 +138,17 @@ fn recovers(rt: &impl Abort, case: Case) -> Result<(), Fail> {
     check_words(rt, &mut memory, case)
 }
 
-#[test]
-fn an_entry_is_undone_or_let_go(rt: HostRuntime) -> Result<(), Fail> {
-    for case in CASES {
-        recovers(&rt, case)?;
+// Does that for each of these cases.
+fn recovers_each(rt: &impl Abort, cases: &[Case]) -> Result<(), Fail> {
+    for case in cases {
+        recovers(rt, *case)?;
     }
     Ok(())
+}
+
+#[test]
+fn an_entry_is_undone_or_let_go(rt: HostRuntime) -> Result<(), Fail> {
+    recovers_each(&rt, &CASES)
 }
 
 // Entries whose words 9 to 12 mean nothing, where the log is free.
@@ -161,23 +156,20 @@ const FREE: [Case; 2] = [
     Case {
         name: "free, the words of a commit",
         entry: [0, 0x105, ROOT, START, END],
-        put: NONE,
+        put: &[],
         answer: false,
     },
     Case {
         name: "free, words that break the rules",
         entry: [0, 16, 0, 0x1100_0003, 0x2001_0000],
-        put: NONE,
+        put: &[],
         answer: false,
     },
 ];
 
 #[test]
 fn a_free_log_is_left_as_it_is(rt: HostRuntime) -> Result<(), Fail> {
-    for case in FREE {
-        recovers(&rt, case)?;
-    }
-    Ok(())
+    recovers_each(&rt, &FREE)
 }
 
 // Entries with one piece or none.
@@ -185,35 +177,32 @@ const FEW: [Case; 4] = [
     Case {
         name: "commit, no piece",
         entry: [1, 5, ROOT, 0xffff_ffff_0000_0000, 0x0000_0001_0000_0000],
-        put: NONE,
+        put: &[],
         answer: false,
     },
     Case {
         name: "checkpoint that is undone, no piece",
         entry: [2, 0x105, ROOT, 0, 0],
-        put: NONE,
+        put: &[],
         answer: false,
     },
     Case {
         name: "commit, a start piece",
         entry: [1, 5, ROOT, START, 0],
-        put: [START_RUN, NO_RUN],
+        put: &[START_RUN],
         answer: true,
     },
     Case {
         name: "commit, an end piece",
         entry: [1, 5, ROOT, 0, END],
-        put: [NO_RUN, END_RUN],
+        put: &[END_RUN],
         answer: true,
     },
 ];
 
 #[test]
 fn no_piece_puts_nothing_back(rt: HostRuntime) -> Result<(), Fail> {
-    for case in FEW {
-        recovers(&rt, case)?;
-    }
-    Ok(())
+    recovers_each(&rt, &FEW)
 }
 
 // The longest pieces, two that overlap, other root words, and bits that are not read.
@@ -221,7 +210,7 @@ const FORMS: [Case; 6] = [
     Case {
         name: "sixteen words each, up to the end of both blocks",
         entry: [1, 5, ROOT, 0x1010_0005, 0x1010_0004],
-        put: [
+        put: &[
             Run {
                 to: 176,
                 from: 32,
@@ -238,7 +227,7 @@ const FORMS: [Case; 6] = [
     Case {
         name: "the end piece over the end of the start piece",
         entry: [1, 5, ROOT, 0x0400_0004, 0x0402_0004],
-        put: [
+        put: &[
             Run {
                 to: 128,
                 from: 32,
@@ -261,7 +250,7 @@ const FORMS: [Case; 6] = [
     Case {
         name: "checkpoint, follow mark, the old root word has another map",
         entry: [2, 0x105, 0x0000_012c_0000_0004, START, END],
-        put: NONE,
+        put: &[],
         answer: false,
     },
     Case {
@@ -273,7 +262,7 @@ const FORMS: [Case; 6] = [
             0xffff_ffff_0000_0000 | START,
             0xffff_ffff_0000_0000 | END,
         ],
-        put: NONE,
+        put: &[],
         answer: false,
     },
     Case {
@@ -292,40 +281,34 @@ const FORMS: [Case; 6] = [
 
 #[test]
 fn pieces_are_put_back_whole(rt: HostRuntime) -> Result<(), Fail> {
-    for case in FORMS {
-        recovers(&rt, case)?;
-    }
+    recovers_each(&rt, &FORMS)
+}
+
+// Makes the image of the first case, with some words changed, in these bytes.
+fn fill_bytes(rt: &impl Abort, bytes: &mut [u8], changes: &[(u64, u64)]) -> Result<(), Fail> {
+    let mut memory = image_in(rt, bytes);
+    fill(&mut memory, CASES[0])?;
+    store_words(&mut memory, changes)?;
     Ok(())
 }
 
-// Makes the image of the first case in these bytes.
-fn fill_bytes(rt: &impl Abort, bytes: &mut [u8]) -> Result<(), Fail> {
-    let mut memory = ByteImage::new(bytes);
-    assert!(rt; memory.restart());
-    fill(&mut memory, CASES[0])
-}
-
-// What recovery answers of these bytes, with power on.
-fn answer(rt: &impl Abort, bytes: &mut [u8]) -> Result<bool, Refusal> {
-    let mut memory = ByteImage::new(bytes);
-    assert!(rt; memory.restart());
-    recover(&mut memory)
-}
-
-// Changes a word of the image, and checks that recovery tells the rule and stores nothing.
-fn refuses(rt: &impl Abort, at: u64, value: u64, rule: u8) -> Result<(), Fail> {
-    let mut bytes = [0; 1536];
-    fill_bytes(rt, &mut bytes)?;
-    let mut memory = ByteImage::new(&mut bytes);
-    assert!(rt; memory.restart());
-    memory.store(at, value)?;
+// Checks that recovery refuses that image in so many bytes, and stores nothing.
+fn refuses<const N: usize>(
+    rt: &impl Abort,
+    changes: &[(u64, u64)],
+    refusal: Refusal,
+) -> Result<(), Fail>
+    requires { N < 2048 }
+{
+    let mut bytes = [0; N];
+    fill_bytes(rt, &mut bytes, changes)?;
     let before = bytes;
     assert_eq!(rt;
-        answer(rt, &mut bytes),
-        Err(Refusal::BadImage(rule)),
-        "word {at}"
+        recover(&mut image_in(rt, &mut bytes)),
+        Err(refusal),
+        "{changes:?}"
     );
-    assert_eq!(rt; bytes, before, "word {at}, rule {rule}");
+    assert_eq!(rt; bytes, before, "{changes:?}, {refusal:?}");
     Ok(())
 }
 
@@ -333,55 +316,45 @@ fn refuses(rt: &impl Abort, at: u64, value: u64, rule: u8) -> Result<(), Fail> {
 fn a_broken_image_is_left_as_it_is(rt: HostRuntime) -> Result<(), Fail> {
     let cases = [
         // the count of blocks, a name in lower case, and one that stands twice
-        (0, 7, 1),
-        (74, 0x61, 2),
-        (64, 0x41, 2),
+        (0, 7, Rule::BlockCount),
+        (74, 0x61, Rule::Names),
+        (64, 0x41, Rule::Names),
         // a map in block 2, and a length of 8,193
-        (75, 0x0000_012c_0000_0002, 3),
-        (75, 0x0000_2001_0000_0003, 3),
+        (75, 0x0000_012c_0000_0002, Rule::Roots),
+        (75, 0x0000_2001_0000_0003, Rule::Roots),
         // a file block past the last, and one that is used twice
-        (97, 6, 4),
-        (97, 5, 5),
+        (97, 6, Rule::Maps),
+        (97, 5, Rule::Blocks),
         // the state, a slot past the last, and an empty one
-        (8, 3, 6),
-        (9, 16, 6),
-        (9, 4, 6),
+        (8, 3, Rule::LogEntry),
+        (9, 16, Rule::LogEntry),
+        (9, 4, Rule::LogEntry),
         // no words, seventeen, words past the end of the block, and words of the map
-        (11, 0x0000_0005, 6),
-        (12, 0x1100_0004, 6),
-        (11, 0x021f_0005, 6),
-        (12, 0x0100_0003, 6),
+        (11, 0x0000_0005, Rule::LogEntry),
+        (12, 0x1100_0004, Rule::LogEntry),
+        (11, 0x021f_0005, Rule::LogEntry),
+        (12, 0x0100_0003, Rule::LogEntry),
     ];
     for (at, value, rule) in cases {
-        refuses(&rt, at, value, rule)?;
+        refuses::<1536>(&rt, &[(at, value)], Refusal::BadImage(rule))?;
     }
     Ok(())
 }
 
 #[test]
 fn five_blocks_are_left_as_they_are(rt: HostRuntime) -> Result<(), Fail> {
-    let mut bytes = [0; 1280];
-    fill_bytes(&rt, &mut bytes)?;
-    let before = bytes;
-    assert_eq!(rt; answer(&rt, &mut bytes), Err(Refusal::WrongSize));
-    assert_eq!(rt; bytes, before);
-    Ok(())
+    refuses::<1280>(&rt, &[], Refusal::WrongSize)
 }
 
 #[test]
 fn six_blocks_and_a_word_are_left_as_they_are(rt: HostRuntime) -> Result<(), Fail> {
-    let mut bytes = [0; 1544];
-    fill_bytes(&rt, &mut bytes)?;
-    let before = bytes;
-    assert_eq!(rt; answer(&rt, &mut bytes), Err(Refusal::WrongSize));
-    assert_eq!(rt; bytes, before);
-    Ok(())
+    refuses::<1544>(&rt, &[], Refusal::WrongSize)
 }
 
 #[test]
 fn without_power_nothing_is_recovered(rt: HostRuntime) -> Result<(), Fail> {
     let mut bytes = [0; 1536];
-    fill_bytes(&rt, &mut bytes)?;
+    fill_bytes(&rt, &mut bytes, &[])?;
     let before = bytes;
     let mut memory = ByteImage::new(&mut bytes);
     assert_eq!(rt; recover(&mut memory), Err(Refusal::PowerLost));
@@ -403,26 +376,37 @@ fn ends_before_cut<M: CutPoint>(
     fill(memory, case)?;
     memory.cut_after(Some(cut));
     let first = recover(memory);
-    assert!(rt; first == Ok(case.answer) || first == Err(Refusal::PowerLost));
+    let ends = first == Ok(case.answer);
+    assert!(rt; ends || first == Err(Refusal::PowerLost));
     assert!(rt; memory.restart());
     let second = recover(memory);
-    assert!(rt; second == Ok(false) || first != Ok(case.answer) && second == Ok(case.answer));
+    assert!(rt; second == Ok(false) || !ends && second == Ok(case.answer));
     check_words(rt, memory, case)?;
-    Ok(first == Ok(case.answer))
+    Ok(ends)
 }
 
-// Cuts the recovery of each case off at every operation.
+// Cuts the recovery of a case off at every operation: with none taken it does not end, and with enough of them it does.
 fn recovers_after_any_cut<M: CutPoint>(
+    rt: &impl Abort,
+    memory: &mut M,
+    case: Case,
+) -> Result<(), Fail> {
+    assert!(rt; !ends_before_cut(rt, memory, case, 0)?, "{}", case.name);
+    for cut in 1..MANY {
+        let _ = ends_before_cut(rt, memory, case, cut)?;
+    }
+    assert!(rt; ends_before_cut(rt, memory, case, MANY)?, "{}", case.name);
+    Ok(())
+}
+
+// Does that for each of these cases.
+fn each_recovers_after_any_cut<M: CutPoint>(
     rt: &impl Abort,
     memory: &mut M,
     cases: &[Case],
 ) -> Result<(), Fail> {
     for case in cases {
-        for cut in 0..MANY {
-            let ends = ends_before_cut(rt, memory, *case, cut)?;
-            assert!(rt; !ends || cut > 0, "{}", case.name);
-        }
-        assert!(rt; ends_before_cut(rt, memory, *case, MANY)?, "{}", case.name);
+        recovers_after_any_cut(rt, memory, *case)?;
     }
     Ok(())
 }
@@ -431,10 +415,10 @@ fn recovers_after_any_cut<M: CutPoint>(
 fn a_cut_recovery_is_made_up_for(rt: HostRuntime) -> Result<(), Fail> {
     let mut bytes = [0; 1536];
     let mut memory = ByteImage::new(&mut bytes);
-    recovers_after_any_cut(&rt, &mut memory, &CASES)?;
-    recovers_after_any_cut(&rt, &mut memory, &FREE)?;
-    recovers_after_any_cut(&rt, &mut memory, &FEW)?;
-    recovers_after_any_cut(&rt, &mut memory, &FORMS)
+    each_recovers_after_any_cut(&rt, &mut memory, &CASES)?;
+    each_recovers_after_any_cut(&rt, &mut memory, &FREE)?;
+    each_recovers_after_any_cut(&rt, &mut memory, &FEW)?;
+    each_recovers_after_any_cut(&rt, &mut memory, &FORMS)
 }
 
 #[test]
@@ -442,8 +426,8 @@ fn a_cut_recovery_is_made_up_for_where_stores_lag(rt: HostRuntime) -> Result<(),
     for given in [0, 0b0101_0101, 0b1010_1010, 0b1111_1111] {
         let below = LaggingMemory::new(rt.alloc(), 192, given)?;
         let mut memory = Cache::new(below);
-        recovers_after_any_cut(&rt, &mut memory, &CASES)?;
-        recovers_after_any_cut(&rt, &mut memory, &FORMS)?;
+        each_recovers_after_any_cut(&rt, &mut memory, &CASES)?;
+        each_recovers_after_any_cut(&rt, &mut memory, &FORMS)?;
     }
     Ok(())
 }

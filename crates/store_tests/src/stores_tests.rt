@@ -1,4 +1,5 @@
-use image_check::refusal::Refusal;
+use crate::bench::{image_in, store_words};
+use image_check::refusal::{Refusal, Rule};
 use media::byte_image::ByteImage;
 use memory::memory::Memory;
 use std::process::Abort;
@@ -18,13 +19,9 @@ fn recovered<M: Memory + Drop>(
     store: Unread<M>,
     put_back: bool,
 ) -> Result<Ready<M>, Fail> {
-    match store.recover() {
-        Ok((store, put)) => {
-            assert_eq!(rt; put, put_back);
-            Ok(store)
-        }
-        Err((_, refusal)) => Err(refusal.into()),
-    }
+    let (store, put) = store.recover().map_err(|(_, refusal)| refusal)?;
+    assert_eq!(rt; put, put_back);
+    Ok(store)
 }
 
 #[test]
@@ -49,7 +46,7 @@ fn a_refused_store_is_given_back(rt: HostRuntime) -> Result<(), Fail> {
     let Err((mut store, refusal)) = store.recover() else {
         return Err(Fail::new("recovered"));
     };
-    assert_eq!(rt; refusal, Refusal::BadImage(1));
+    assert_eq!(rt; refusal, Refusal::BadImage(Rule::BlockCount));
     assert_eq!(rt; store.format(), Ok(()));
     let _ = recovered(&rt, store, false)?;
     assert_eq!(rt; bytes[0], 6);
@@ -87,11 +84,8 @@ const CHANGE: [(u64, u64); 9] = [
 #[test]
 fn pieces_are_put_back_once(rt: HostRuntime) -> Result<(), Fail> {
     let mut bytes = [0; 1536];
-    let mut memory = ByteImage::new(&mut bytes);
-    assert!(rt; memory.restart());
-    for word in CHANGE {
-        memory.store(word.0, word.1)?;
-    }
+    let mut memory = image_in(&rt, &mut bytes);
+    store_words(&mut memory, &CHANGE)?;
     let ready = recovered(&rt, Unread::new(memory), true)?;
     let (store, up) = ready.restart();
     assert!(rt; up);

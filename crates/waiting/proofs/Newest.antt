@@ -1,61 +1,37 @@
 -- The newest word for a place, and the words with one more. Assumes nothing.
-use Rattle.std.proofs.Common.{◌≡◌, ℕ, zero, suc, ◌+◌, ◌-◌, ◌<◌, ◌≤◌, min, Bool, true, false, cond, eqb, ltb, ◌⊎◌, List, [], ◌∷◌, ◌++◌, length, get_or, take, drop, set, Some, None, Option, sym, refl, ap, ◌∙◌, subst, inl, inr, ⊎_elim, arith}
+use Rattle.std.proofs.Common.{min, ◌≡◌, ◌≢◌, MatchOption, ℕ, zero, suc, ◌+◌, ◌-◌, ◌<◌, Bool, true, false, cond, eqb, ltb, List, [], ◌∷◌, ◌++◌, length, get_or, take, drop, set, Some, None, Option, sym, refl, ap, ◌∙◌, subst, inl, inr, ⊎_elim, arith}
 use lib.Seq.{take-set-lt}
-use Rattle.std.proofs.lemmas.List.{append-nil, drop_all, drop-append-le, drop-drop, drop_more, drop-set-add, drop-take, get_or-drop, get_or-take, length-append, length-drop, length-take, length-take-le, set_at, take_all}
+use Rattle.std.proofs.lemmas.List.{drop_all, append-nil, drop-append-le, drop-set-add, length-append, length-drop, length-take, set_at, take_all}
 use Rattle.std.proofs.lemmas.Bool.{cases_lt, eqb-true, eq-eqb, ne_eqb, lt-ltb, le-ltb}
 use Rattle.memory.specs.Model.{In, Among}
 use Rattle.memory.specs.Stores.{Words, word, one, put, values_at}
 use Rattle.memory.specs.declared.word.Word.{Word}
 use Rattle.memory.proofs.Putting.{in_either, one-here, one-other, put-append, put_same, values_at-append}
-use Rattle.waiting.specs.Waits.{newest, newest_of, waiting_value, value_of, leaving, leaving_of, holding, holding_of}
+use Rattle.waiting.specs.Waits.{newest, newest_of, leaving, leaving_of, holding, holding_of}
 
 -- ---- a search from the end
 
-newest-from : (k : ℕ) (ws : List Word) (i : ℕ) → newest (drop k ws) i ≡ Some 0 → newest ws i ≡ Some k
-newest-from zero ws i h = h
-newest-from (suc k) [] i h = let z : ◌≡◌ {A = ℕ} 0 1 = cc in absurd (omega arith)
-newest-from (suc k) (s ∷ ss) i h = ap (newest_of (eqb i s.at)) (newest-from k ss i h)
+-- where no word is for the place, none is the newest
+newest-nowhere : (ws : List Word) (i : ℕ) → ((k : ℕ) → k < length ws → (get_or ws k (word 0 0)).at ≢ i) → newest ws i ≡ None
+newest-nowhere [] i h = refl
+newest-nowhere (s ∷ ss) i h =
+    let here = ne_eqb i s.at (λ e. h 0 (omega arith) (sym e)) in
+    let later = newest-nowhere ss i (λ k lt. h (suc k) (omega arith)) in
+    cc
 
-newest-later : (k : ℕ) (ws : List Word) (i : ℕ) → newest ws i ≡ None → newest (drop k ws) i ≡ None
-newest-later zero ws i h = h
-newest-later (suc k) [] i h = refl
-newest-later (suc k) (s ∷ ss) i h = newest-later k ss i (rest (eqb i s.at) (newest ss i) h)
-  where
-    rest : (b : Bool) (o : Option ℕ) → newest_of b o ≡ None → o ≡ None
-    rest b (Some j) e = let z : ◌≡◌ {A = ℕ} 0 1 = cc in absurd (omega arith)
-    rest b None e = refl
+-- a word for the place is the newest where none behind it is
+newest-here : (ws : List Word) (i k : ℕ) → k < length ws → (get_or ws k (word 0 0)).at ≡ i → ((j : ℕ) → k < j → j < length ws → (get_or ws j (word 0 0)).at ≢ i) → newest ws i ≡ Some k
+newest-here [] i k lt e h = absurd (omega arith)
+newest-here (s ∷ ss) i zero lt e h =
+    let here = eq-eqb i s.at (sym e) in
+    let later = newest-nowhere ss i (λ j below. h (suc j) (omega arith) (omega arith)) in
+    cc
+newest-here (s ∷ ss) i (suc k) lt e h =
+    ap (newest_of (eqb i s.at)) (newest-here ss i k (omega arith) e (λ j above below. h (suc j) (omega arith) (omega arith)))
 
--- of the first n of xs, those from k on are not for place i
-pub past_all : (n : ℕ) (xs : List Word) (i : ℕ) → newest (drop n (take n xs)) i ≡ None
-past_all n xs i = ap (λ x. newest x i) (drop_all n (take n xs) (simp length-take (omega arith)))
-
-pub none_from : (n : ℕ) (xs : List Word) (i k free : ℕ) → k ≤ free → newest (drop k (take n xs)) i ≡ None → newest (drop free (take n xs)) i ≡ None
-none_from n xs i k free le later =
-    let same : k + (free - k) ≡ free = omega arith in
-    subst (λ m. newest (drop m (take n xs)) i ≡ None) same (ap (λ x. newest x i) (sym (drop-drop (free - k) k (take n xs))) ∙ newest-later (free - k) (drop k (take n xs)) i later)
-
-module _ (xs : List Word) (n k i : ℕ) (above : 0 < k) (inside : k ≤ n) (fits : n ≤ length xs) (later : newest (drop k (take n xs)) i ≡ None) where
-  before : newest (drop (k - 1) (take n xs)) i ≡ newest_of (eqb i (get_or xs (k - 1) (word 0 0)).at) None
-  before =
-      let same : k - 1 + 1 ≡ k = omega arith in
-      let long = length-take-le n xs fits in
-      let split = drop_more (take n xs) (k - 1) (word 0 0) (omega arith) in
-      let read = get_or-take n xs (k - 1) (word 0 0) (omega arith) in
-      ap (λ x. newest x i) split
-      ∙ ap (λ (s : Word). newest_of (eqb i s.at) (newest (drop (k - 1 + 1) (take n xs)) i)) read
-      ∙ ap (newest_of (eqb i (get_or xs (k - 1) (word 0 0)).at)) (ap (λ m. newest (drop m (take n xs)) i) same ∙ later)
-
-  pub found_here : (free : ℕ) → free < k → (get_or xs (k - 1) (word 0 0)).at ≡ i → newest (drop free (take n xs)) i ≡ Some (k - 1 - free)
-  found_here free lt e =
-      let same : free + (k - 1 - free) ≡ k - 1 = omega arith in
-      newest-from (k - 1 - free) (drop free (take n xs)) i
-      (ap (λ x. newest x i) (drop-drop (k - 1 - free) free (take n xs))
-      ∙ ap (λ m. newest (drop m (take n xs)) i) same
-      ∙ before
-      ∙ ap (λ b. newest_of b None) (eq-eqb _ _ (sym e)))
-
-  pub none_here : ((get_or xs (k - 1) (word 0 0)).at ≡ i → ⊥) → newest (drop (k - 1) (take n xs)) i ≡ None
-  none_here ne = before ∙ ap (λ b. newest_of b None) (ne_eqb _ _ (λ e. ne (sym e)))
+pub newest-is : (ws : List Word) (i : ℕ) (r : Option ℕ) → MatchOption r ((k : ℕ) → k < length ws → (get_or ws k (word 0 0)).at ≢ i) (λ k. (k < length ws) × ((get_or ws k (word 0 0)).at ≡ i) × ((j : ℕ) → k < j → j < length ws → (get_or ws j (word 0 0)).at ≢ i)) → r ≡ newest ws i
+newest-is ws i None h = sym (newest-nowhere ws i h)
+newest-is ws i (Some k) h = sym (newest-here ws i k h.0 h.1 h.2)
 
 -- ---- what the newest word tells
 
@@ -186,24 +162,9 @@ left ws i v o some = go (newest ws i) ws some
 
 -- ---- of the eight words of a buffer, those from free on
 
-pub from-free : (free start : ℕ) (xs : List Word) → start ≡ min free 8 → take (8 - start) (drop start xs) ≡ drop free (take 8 xs)
-from-free free start xs is =
-    let same : start + (8 - start) ≡ 8 = omega arith in
-    sym (ap (λ n. drop start (take n xs)) (sym same) ∙ drop-take start (8 - start) xs) ∙ go (cases_lt free 8)
-  where
-    go : (free < 8) ⊎ (8 ≤ free) → drop start (take 8 xs) ≡ drop free (take 8 xs)
-    go (inl lt) = let at : start ≡ free = omega arith in ap (λ n. drop n (take 8 xs)) at
-    go (inr ge) =
-        drop_all start (take 8 xs) (simp length-take (omega arith)) ∙ sym (drop_all free (take 8 xs) (simp length-take (omega arith)))
-
-pub newest-below : (free : ℕ) (xs : List Word) (i k : ℕ) → newest (drop free (take 8 xs)) i ≡ Some k → free + k < 8
+newest-below : (free : ℕ) (xs : List Word) (i k : ℕ) → newest (drop free (take 8 xs)) i ≡ Some k → free + k < 8
 newest-below free xs i k e =
     let inside = (newest-some (drop free (take 8 xs)) i k e).0 in omega (arith, length-drop free (take 8 xs), length-take 8 xs)
-
-pub value-waits : (free : ℕ) (xs : List Word) (i k : ℕ) → newest (drop free (take 8 xs)) i ≡ Some k → Some (get_or xs (free + k) (word 0 0)).value ≡ waiting_value (drop free (take 8 xs)) i
-value-waits free xs i k e =
-    ap (λ (s : Word). Some s.value) (sym (get_or-drop free (take 8 xs) k (word 0 0) ∙ get_or-take 8 xs (free + k) (word 0 0) (newest-below free xs i k e)))
-    ∙ sym (ap (λ o. value_of o (drop free (take 8 xs))) e)
 
 -- no word has to leave while there is room
 pub room : (free : ℕ) (xs : List Word) (i : ℕ) → 0 < free → leaving (drop free (take 8 xs)) i ≡ None

@@ -1,9 +1,8 @@
-ghost use Rattle.std.specs.Prelude.{◌≡◌, []};
-ghost use Rattle.waiting.specs.Waits.{waiting, newest, waiting_value, leaving, holding};
+ghost use Rattle.std.specs.Prelude.{◌≡◌, ◌<◌, ◌≤◌, [], length, IfSome};
 
 use memory::word::Word;
 
-// The words that wait in a cache: of eight words those from `free` on, the oldest first.
+// The words that wait in a cache, which has no heap: of eight words those from `free` on, the oldest first.
 #[derive(Clone, Copy)]
 pub struct Waiting {
     words: [Word; 8],
@@ -11,6 +10,8 @@ pub struct Waiting {
 }
 
 impl Waiting {
+    ghost use Rattle.waiting.specs.Waits.{waiting, newest, waiting_value, leaving, holding};
+
     // No word waits.
     pub fn new() -> Waiting
         ensures { waiting result ≡ [] }
@@ -23,43 +24,33 @@ impl Waiting {
 
     // Where among the waiting words the newest one for a place stands.
     fn find(&self, at: u64) -> Option<usize>
-        ensures { result ≡ newest (waiting self.now) at }
+        ensures newest { result ≡ newest (waiting self.now) at }
+        ensures inside { IfSome result (λ k. k < length (waiting self.now)) }
     {
-        for k in (self.free..8).rev() {
-            if self.words[k].at == at {
-                return Some(k - self.free);
-            }
-        }
-        None
+        self.words().iter().rposition(|word| word.at == at)
     }
 
     // The value that waits for a place.
     pub fn value(&self, at: u64) -> Option<u64>
         ensures { result ≡ waiting_value (waiting self.now) at }
     {
-        match self.find(at) {
-            Some(k) => Some(self.words[self.free + k].value),
-            None => None,
-        }
+        self.find(at).map(|k| self.words()[k].value)
     }
 
     // The words that wait, the oldest first.
     pub fn words(&self) -> &[Word]
         ensures { result.now ≡ waiting self.now }
     {
-        &self.words[self.free.min(8)..8]
+        &self.words[self.free.min(8)..]
     }
 
     // The word that has to go below before one for this place can wait.
     pub fn leaving(&self, at: u64) -> Option<Word>
         ensures { result ≡ leaving (waiting self.now) at }
     {
-        if self.free > 0 {
-            return None;
-        }
         match self.find(at) {
-            Some(_) => None,
-            None => Some(self.words[0]),
+            None if self.free == 0 => Some(self.words[0]),
+            _ => None,
         }
     }
 
@@ -69,9 +60,7 @@ impl Waiting {
     {
         let word = Word { at, value };
         match self.find(at) {
-            Some(k) => {
-                self.words[self.free + k] = word;
-            }
+            Some(k) => self.words[self.free + k] = word,
             None => {
                 self.words.rotate_left(1);
                 self.words[7] = word;

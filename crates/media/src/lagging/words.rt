@@ -24,13 +24,12 @@ fn settle(seen: &mut [u64], kept: &mut [u64], given: u8)
     ensures seen { (i : ℕ) → i < length seen.old → slice_index seen.new i ≡ survivor given seen.old kept.old i }
     ensures kept { kept.new ≡ seen.new }
 {
-    for i in 0..seen.len() {
+    for (i, word) in kept.iter_mut().enumerate() {
         if keeps_newest(given, i) {
-            kept[i] = seen[i];
-        } else {
-            seen[i] = kept[i];
+            *word = seen[i];
         }
     }
+    seen.copy_from_slice(kept);
 }
 
 impl LaggingMemory {

@@ -6,6 +6,7 @@ ghost use Rattle.piles.specs.Pile.{pile_model, at_base, depth, pile-seen-may};
 ghost use Rattle.layers.specs.StoredAll.{StoredAll};
 
 use crate::pile::Pile;
+use layers::admit::admit;
 use layers::outside::unless_outside;
 use layers::part::Run;
 use memory::cut_point::CutPoint;
@@ -29,10 +30,7 @@ impl<M: Memory> Pile<M> {
         ensures lent { IfOk result (λ p. at_base M.Memory.lent p ≡ at_base M.Memory.lent below) }
         ensures refused { IfErr result (λ b. b.value ≡ below) }
     {
-        match Box::new(heap, below) {
-            Ok(below) => Ok(Pile::Cache(below, Waiting::new())),
-            Err(back) => Err(back),
-        }
+        Ok(Pile::Cache(Box::new(heap, below)?, Waiting::new()))
     }
 
     // A run of the words of a pile.
@@ -41,168 +39,7 @@ impl<M: Memory> Pile<M> {
         ensures lent { IfOk result (λ p. at_base M.Memory.lent p ≡ at_base M.Memory.lent below) }
         ensures refused { IfErr result (λ b. b.value ≡ below) }
     {
-        match Box::new(heap, below) {
-            Ok(below) => Ok(Pile::Part(below, run)),
-            Err(back) => Err(back),
-        }
-    }
-}
-
-// How many words a pile has.
-fn pile_count<M: Memory>(pile: &Pile<M>) -> u64
-    ensures { result ≡ (pile_model M.Memory.model pile.now).count }
-{
-    match pile {
-        Pile::Base(memory) => memory.count(),
-        Pile::Cache(below, _) => pile_count(below),
-        Pile::Part(below, run) => run.inside(pile_count(below)),
-    }
-}
-
-// Whether a pile has power.
-fn pile_is_up<M: Memory>(pile: &Pile<M>) -> bool
-    ensures { result ≡ (pile_model M.Memory.model pile.now).up }
-{
-    match pile {
-        Pile::Base(memory) => memory.is_up(),
-        Pile::Cache(below, _) => pile_is_up(below),
-        Pile::Part(below, _) => pile_is_up(below),
-    }
-}
-
-// The value seen in a word of a pile.
-fn pile_load<M: Memory>(pile: &mut Pile<M>, at: u64) -> Result<u64, Fault>
-    ensures gives { Loaded (pile_model M.Memory.model pile.old) at result (pile_model M.Memory.model pile.new) }
-    ensures same { at_base M.Memory.lent pile.new ≡ at_base M.Memory.lent pile.old }
-    ensures each { PileLoads M.Memory.model pile.old at result pile.new }
-{
-    match pile {
-        Pile::Base(memory) => memory.load(at),
-        Pile::Cache(below, waiting) => {
-            let below = &mut **below;
-            if !pile_is_up(below) {
-                return Err(Fault::Down);
-            }
-            if at >= pile_count(below) {
-                return Err(Fault::Outside);
-            }
-            match waiting.value(at) {
-                Some(value) => Ok(value),
-                None => pile_load(below, at),
-            }
-        }
-        Pile::Part(below, run) => {
-            let below = &mut **below;
-            if !pile_is_up(below) {
-                return Err(Fault::Down);
-            }
-            if at >= run.inside(pile_count(below)) {
-                return Err(Fault::Outside);
-            }
-            pile_load(below, run.first + at)
-        }
-    }
-}
-
-// Makes the value the one seen in a word of a pile.
-fn pile_store<M: Memory>(pile: &mut Pile<M>, at: u64, value: u64) -> Result<(), Fault>
-    ensures gives { Stored (pile_model M.Memory.model pile.old) at value result (pile_model M.Memory.model pile.new) }
-    ensures same { at_base M.Memory.lent pile.new ≡ at_base M.Memory.lent pile.old }
-    ensures each { PileStores M.Memory.model pile.old at value result pile.new }
-    ensures layers { depth pile.new ≡ depth pile.old }
-{
-    match pile {
-        Pile::Base(memory) => memory.store(at, value),
-        Pile::Cache(below, waiting) => {
-            let below = &mut **below;
-            if !pile_is_up(below) {
-                return Err(Fault::Down);
-            }
-            if at >= pile_count(below) {
-                return Err(Fault::Outside);
-            }
-            match waiting.leaving(at) {
-                None => waiting.hold(at, value),
-                Some(oldest) => {
-                    unless_outside(pile_store(below, oldest.at, oldest.value))?;
-                    waiting.hold(at, value);
-                }
-            }
-            Ok(())
-        }
-        Pile::Part(below, run) => {
-            let below = &mut **below;
-            if !pile_is_up(below) {
-                return Err(Fault::Down);
-            }
-            if at >= run.inside(pile_count(below)) {
-                return Err(Fault::Outside);
-            }
-            pile_store(below, run.first + at, value)
-        }
-    }
-}
-
-// Stores the words in their order; one past the last word of the pile means nothing.
-fn pile_store_all<M: Memory>(pile: &mut Pile<M>, words: &[Word]) -> Result<(), Fault>
-    ensures gives { StoredAll (pile_model M.Memory.model pile.old) words.now result (pile_model M.Memory.model pile.new) }
-    ensures same { at_base M.Memory.lent pile.new ≡ at_base M.Memory.lent pile.old }
-    ensures each { PileStoresAll M.Memory.model pile.old words.now result pile.new }
-    ensures layers { depth pile.new ≡ depth pile.old }
-{
-    for word in words {
-        unless_outside(pile_store(pile, word.at, word.value))?;
-    }
-    Ok(())
-}
-
-// Once done, each word of the pile outlasts a loss of power as it is seen.
-fn pile_barrier<M: Memory>(pile: &mut Pile<M>) -> Result<(), Fault>
-    ensures gives { Flushed (pile_model M.Memory.model pile.old) result (pile_model M.Memory.model pile.new) }
-    ensures same { at_base M.Memory.lent pile.new ≡ at_base M.Memory.lent pile.old }
-    ensures each { PileFlushes M.Memory.model pile.old result pile.new }
-{
-    match pile {
-        Pile::Base(memory) => memory.barrier(),
-        Pile::Cache(below, waiting) => {
-            let below = &mut **below;
-            if !pile_is_up(below) {
-                return Err(Fault::Down);
-            }
-            pile_store_all(below, waiting.words())?;
-            *waiting = Waiting::new();
-            pile_barrier(below)
-        }
-        Pile::Part(below, _run) => pile_barrier(below),
-    }
-}
-
-// Turns power off and on again; what waits in a cache is lost.
-fn pile_restart<M: Memory>(pile: &mut Pile<M>) -> bool
-    ensures gives { Restarted (pile_model M.Memory.model pile.old) result (pile_model M.Memory.model pile.new) }
-    ensures same { at_base M.Memory.lent pile.new ≡ at_base M.Memory.lent pile.old }
-    ensures each { PileRestarts M.Memory.model pile.old result pile.new }
-{
-    match pile {
-        Pile::Base(memory) => memory.restart(),
-        Pile::Cache(below, waiting) => {
-            waiting.clear();
-            pile_restart(below)
-        }
-        Pile::Part(below, _run) => pile_restart(below),
-    }
-}
-
-// Sets the cut point of the base memory.
-fn pile_cut_after<M: CutPoint>(pile: &mut Pile<M>, operations: Option<u64>)
-    ensures cut { at_base M.CutPoint.cut pile.new ≡ operations }
-    ensures same { pile_model M.Memory.model pile.new ≡ pile_model M.Memory.model pile.old }
-    ensures lent { at_base M.Memory.lent pile.new ≡ at_base M.Memory.lent pile.old }
-{
-    match pile {
-        Pile::Base(memory) => memory.cut_after(operations),
-        Pile::Cache(below, _) => pile_cut_after(below, operations),
-        Pile::Part(below, _) => pile_cut_after(below, operations),
+        Ok(Pile::Part(Box::new(heap, below)?, run))
     }
 }
 
@@ -214,11 +51,18 @@ impl<M: Memory> Memory for Pile<M> {
     ghost lent = { at_base M.Memory.lent };
 
     fn count(&self) -> u64 {
-        pile_count(self)
+        match self {
+            Pile::Base(memory) => memory.count(),
+            Pile::Cache(below, _) => below.count(),
+            Pile::Part(below, run) => run.inside(below.count()),
+        }
     }
 
     fn is_up(&self) -> bool {
-        pile_is_up(self)
+        match self {
+            Pile::Base(memory) => memory.is_up(),
+            Pile::Cache(below, _) | Pile::Part(below, _) => below.is_up(),
+        }
     }
 
     fn load(&mut self, at: u64) -> Result<u64, Fault>
@@ -226,38 +70,104 @@ impl<M: Memory> Memory for Pile<M> {
         ensures same { at_base M.Memory.lent self.new ≡ at_base M.Memory.lent self.old }
         ensures each { PileLoads M.Memory.model self.old at result self.new }
     {
-        pile_load(self, at)
+        match self {
+            Pile::Base(memory) => memory.load(at),
+            Pile::Cache(below, waiting) => {
+                admit(below.is_up(), at, below.count())?;
+                match waiting.value(at) {
+                    Some(value) => Ok(value),
+                    None => below.load(at),
+                }
+            }
+            Pile::Part(below, run) => {
+                admit(below.is_up(), at, run.inside(below.count()))?;
+                below.load(run.first + at)
+            }
+        }
     }
 
+    // The value waits in the uppermost cache; where eight others wait there, the oldest goes below first.
     fn store(&mut self, at: u64, value: u64) -> Result<(), Fault>
         ensures gives { Stored (pile_model M.Memory.model self.old) at value result (pile_model M.Memory.model self.new) }
         ensures same { at_base M.Memory.lent self.new ≡ at_base M.Memory.lent self.old }
         ensures each { PileStores M.Memory.model self.old at value result self.new }
+        ensures layers { depth self.new ≡ depth self.old }
     {
-        pile_store(self, at, value)
+        match self {
+            Pile::Base(memory) => memory.store(at, value),
+            Pile::Cache(below, waiting) => {
+                admit(below.is_up(), at, below.count())?;
+                if let Some(oldest) = waiting.leaving(at) {
+                    unless_outside(below.store(oldest.at, oldest.value))?;
+                }
+                waiting.hold(at, value);
+                Ok(())
+            }
+            Pile::Part(below, run) => {
+                admit(below.is_up(), at, run.inside(below.count()))?;
+                below.store(run.first + at, value)
+            }
+        }
     }
 
+    // Of a cache, what waits goes below first.
     fn barrier(&mut self) -> Result<(), Fault>
         ensures gives { Flushed (pile_model M.Memory.model self.old) result (pile_model M.Memory.model self.new) }
         ensures same { at_base M.Memory.lent self.new ≡ at_base M.Memory.lent self.old }
         ensures each { PileFlushes M.Memory.model self.old result self.new }
     {
-        pile_barrier(self)
+        match self {
+            Pile::Base(memory) => memory.barrier(),
+            Pile::Cache(below, waiting) => {
+                if !below.is_up() {
+                    return Err(Fault::Down);
+                }
+                store_all(below, waiting.words())?;
+                *waiting = Waiting::new();
+                below.barrier()
+            }
+            Pile::Part(below, _) => below.barrier(),
+        }
     }
 
+    // What waits in a cache is lost.
     fn restart(&mut self) -> bool
         ensures gives { Restarted (pile_model M.Memory.model self.old) result (pile_model M.Memory.model self.new) }
         ensures same { at_base M.Memory.lent self.new ≡ at_base M.Memory.lent self.old }
         ensures each { PileRestarts M.Memory.model self.old result self.new }
     {
-        pile_restart(self)
+        match self {
+            Pile::Base(memory) => memory.restart(),
+            Pile::Cache(below, waiting) => {
+                waiting.clear();
+                below.restart()
+            }
+            Pile::Part(below, _) => below.restart(),
+        }
     }
+}
+
+// Stores the words in their order; one past the last word of the pile means nothing.
+fn store_all<M: Memory>(pile: &mut Pile<M>, words: &[Word]) -> Result<(), Fault>
+    ensures gives { StoredAll (pile_model M.Memory.model pile.old) words.now result (pile_model M.Memory.model pile.new) }
+    ensures same { at_base M.Memory.lent pile.new ≡ at_base M.Memory.lent pile.old }
+    ensures each { PileStoresAll M.Memory.model pile.old words.now result pile.new }
+    ensures layers { depth pile.new ≡ depth pile.old }
+{
+    for word in words {
+        unless_outside(pile.store(word.at, word.value))?;
+    }
+    Ok(())
 }
 
 impl<M: CutPoint> CutPoint for Pile<M> {
     ghost cut = { at_base M.CutPoint.cut };
 
     fn cut_after(&mut self, operations: Option<u64>) {
-        pile_cut_after(self, operations);
+        match self {
+            Pile::Base(memory) => memory.cut_after(operations),
+            Pile::Cache(below, _) => below.cut_after(operations),
+            Pile::Part(below, _) => below.cut_after(operations),
+        }
     }
 }

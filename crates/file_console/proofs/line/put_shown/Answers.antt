@@ -1,26 +1,36 @@
-use Rattle.std.proofs.Common.{◌≡◌, ◌+◌, ◌<◌, [], ◌∷◌, length, sym, ap, ◌∙◌, arith}
+use Rattle.std.proofs.Common.{◌≡◌, ◌+◌, ◌*◌, ◌<◌, ◌≤◌, length, Ok, Err, Result, ◌∙◌, arith, rules}
 use Rattle.std.proofs.lemmas.Bool.Decides.{nat_tests}
-use Rattle.file_console.specs.Lines.{hex, written}
-use Rattle.file_console.proofs.Lengths.{shown-none, shown-some}
-use Rattle.file_console.proofs.Writing.{then-written, written_none}
+use Rattle.std.specs.Result.{IsOk, OnOk}
+use Rattle.hex.specs.Hex.{encode_lower}
+use Rattle.file_console.proofs.Lengths.{hex-encoded, length-shown}
+use Rattle.file_console.proofs.Writing.{shown-written}
 use Rattle.file_console.proofs.line.put_shown.Goals as goal
 
-pub returns-then-is_empty : goal.returns-then-is_empty
-returns-then-is_empty c =
-    let empty : length c.args.shown.now ≡ 0 = grind (arith, nat_tests, c.if-is_empty.ensures) in
-    let none = shown-none c.args.shown.now empty in
-    record {
-      value = omega (arith, ap length none);
-      after = sym (written_none c.args.out.now c.args.at) ∙ ap (written c.args.out.now c.args.at) (sym none);
-    }
+from_ok : {T E : Type 0} (r : Result T E) (P : Type 0) → IsOk r → OnOk r P → P
+from_ok (Ok x) P ok h = h
+from_ok (Err e) P ok h = absurd (cc)
 
-pub returns : goal.returns
-returns c =
-    let full : 0 < length c.args.shown.now = grind (arith, nat_tests, c.if-is_empty.ensures) in
-    let some = shown-some c.args.shown.now full in
-    let w = then-written c.args.out.now c.put-next.new.out c.put_hex.new.out c.args.at c.put-next.result c.put_hex.result (32 ∷ []) (hex c.args.shown.now)
-    (omega arith) c.put-next.ensures.after c.put_hex.ensures.value c.put_hex.ensures.after (omega (arith, ap length some, c.requires)) in
-    record {
-      value = w.0 ∙ ap (λ t. c.args.at + length t) (sym some);
-      after = w.1 ∙ ap (written c.args.out.now c.args.at) (sym some);
-    }
+pub overflow_add-end : goal.overflow_add-end
+overflow_add-end c =
+    let some : 0 < length c.args.shown.now = grind (arith, nat_tests, c.if-is_empty.ensures) in
+    omega (arith, length-shown c.args.shown.now some, c.requires)
+
+pub slice_bounds-encode_to_slice-end : goal.slice_bounds-encode_to_slice-end
+slice_bounds-encode_to_slice-end c =
+    let some : 0 < length c.args.shown.now = grind (arith, nat_tests, c.if-is_empty.ensures) in
+    let room : c.put-next.result + 2 * length c.args.shown.now ≤ length c.put-next.new.out = omega (arith, length-shown c.args.shown.now some, c.requires) in
+    search rules
+
+pub returns-clause-value : goal.returns-clause-value
+returns-clause-value c =
+    let some : 0 < length c.args.shown.now = grind (arith, nat_tests, c.if-is_empty.ensures) in
+    omega (arith, length-shown c.args.shown.now some)
+
+pub returns-clause-after : goal.returns-clause-after
+returns-clause-after c =
+    let some : 0 < length c.args.shown.now = grind (arith, nat_tests, c.if-is_empty.ensures) in
+    let room : c.put-next.result + 2 * length c.args.shown.now ≤ length c.put-next.new.out = omega (arith, length-shown c.args.shown.now some, c.requires) in
+    let ok : IsOk c.encode_to_slice.result = c.encode_to_slice.ensures.fits.1 (search rules) in
+    let text : c.encode_to_slice.new.output ≡ encode_lower c.args.shown.now = from_ok c.encode_to_slice.result (c.encode_to_slice.new.output ≡ encode_lower c.args.shown.now) ok c.encode_to_slice.ensures.written in
+    shown-written c.args.out.now c.put-next.new.out c.encode_to_slice.new.output c.args.shown.now c.args.at c.put-next.result _ some c.requires
+    c.put-next.ensures.value c.put-next.ensures.after (omega arith) (text ∙ hex-encoded c.args.shown.now (λ k. let fits = c.type_inv.shown k in omega (arith, fits)))

@@ -8,22 +8,20 @@ use Rattle.file_console.proofs.state.show_file.Goals as goal
 
 pub overflow_cast-result : goal.overflow_cast-result
 overflow_cast-result g c =
-    let m = g.M.Memory.model c.args.memory.now in
-    let n = g.M.Memory.model c.read.new.memory in
     let old : List ℕ = take c.from.result c.args.buffer.now in
     let asked = length-take-le c.from.result c.args.buffer.now (omega arith) in
-    let few = given-few {m = m} {k = n} c.args.name c.args.offset (length old) c.in-Ok.given c.in-Ok.ensures.called in
+    let few = given-few {m = g.M.Memory.model c.args.memory.now} {k = g.M.Memory.model c.read.new.memory} c.args.name c.args.offset (length old) c.in_ok-given.given c.in_ok-given.ensures.called in
     omega (arith, c.requires)
 
-pub returns-in-Ok : goal.returns-in-Ok
-returns-in-Ok g c =
+pub returns : goal.returns
+returns g c =
     let m = g.M.Memory.model c.args.memory.now in
     let n = g.M.Memory.model c.read.new.memory in
     let name = c.args.name in
     let offset = c.args.offset in
     let count = c.args.count in
-    let given = c.in-Ok.given in
-    let h = c.in-Ok.ensures in
+    let given = c.in_ok-given.given in
+    let h = c.in_ok-given.ensures in
     let old : List ℕ = take c.from.result c.args.buffer.now in
     let asked : length old ≡ count = length-take-le c.from.result c.args.buffer.now (omega arith) ∙ c.from.ensures in
     let called = subst (λ k. FileCall m (read name offset k) (done (given ∷ [])) n) asked h.called in

@@ -1,5 +1,7 @@
-use Rattle.std.proofs.Common.{◌≡◌, ◌%◌, ◌^◌, ◌≤◌, get_or, Decides, ap, ◌∙◌, subst, inl, inr, arith}
+use Rattle.std.proofs.Common.{◌≡◌, ◌%◌, ◌^◌, ◌≤◌, Decides, ap, ◌∙◌, subst, inl, inr, arith, rules}
 use Rattle.layout.specs.Log.{log_slot, Rule6}
+use Rattle.layout.specs.declared.log.LogState.TheVariants.{Free}
+use Rattle.image_check.specs.Directory.{slot_at}
 use Rattle.image_check.proofs.Entries.{BothGood, both-before, by-pieces, busy, good-root, no_slot, reads-later}
 use Rattle.image_check.proofs.Looking.{looked-more, looked-down, reads_exit}
 use Rattle.image_check.proofs.entry.entry_is_good.Goals as goal
@@ -22,12 +24,13 @@ returns-then-slot-ge16 g c =
     let w = (g.M.Memory.model c.args.memory.now).seen in
     let first = c.in_ok-state.ensures in
     let second = c.in_ok-mark.ensures in
-    let some = subst (λ x. (1 ≤ x) × (x ≤ 2)) first.reads.1 (busy c.in-Some.state c.in_ok-state.state c.in_default-state.not-Free c.in-Some.ensures) in
-    let slot : c.from-slot.result ≡ log_slot w = c.from-slot.ensures ∙ c.from_word-2.ensures.slot ∙ ap (λ x. x % 2 ^ 8) (second.reads.1 ∙ first.reads.0.seen 9 (omega (arith, c.requires.size, c.requires.some))) in
+    let other : c.in-Ok.state ≡ Free → ⊥ = search rules in
+    let some = subst (λ x. (1 ≤ x) × (x ≤ 2)) first.reads.1 (busy c.in-Ok.state c.in_ok-state.state other c.in-Ok.ensures) in
+    let named : c.from-slot.result ≡ log_slot w = c.from-slot.ensures ∙ c.from.ensures.slot ∙ ap (λ x. x % 2 ^ 8) (second.reads.1 ∙ first.reads.0.seen 9 (omega (arith, c.requires.size, c.requires.some))) in
     record {
       reads = (
         looked-more first.reads.0 second.reads.0,
-        no_slot w c.args.directory.now c.from-slot.result some.0 slot c.requires.listed
+        no_slot w c.args.directory.now c.from-slot.result some.0 named c.requires.listed
             (elim c.then-slot-ge16.branch [
               | then-slot-ge16-via-then-slot-ge16 v ↦ inl v.if-slot-ge16.true
               | then-slot-ge16-via-else-slot-ge16+then-directory-slot-eq0 v ↦ inr (v.if-slot-ge16.false, v.if-directory-slot-eq0.true)
@@ -45,13 +48,14 @@ returns g c =
     let second = c.in_ok-mark.ensures in
     let h = c.pieces_are_good.ensures in
     let looked = looked-more first.reads.0 second.reads.0 in
-    let some = subst (λ x. (1 ≤ x) × (x ≤ 2)) first.reads.1 (busy c.in-Some.state c.in_ok-state.state c.in_default-state.not-Free c.in-Some.ensures) in
-    let slot : s ≡ log_slot m.seen = c.from-slot.ensures ∙ c.from_word-2.ensures.slot ∙ ap (λ x. x % 2 ^ 8) (second.reads.1 ∙ first.reads.0.seen 9 (omega (arith, c.requires.size, c.requires.some))) in
-    let root = get_or d.roots s 0 in
+    let other : c.in-Ok.state ≡ Free → ⊥ = search rules in
+    let some = subst (λ x. (1 ≤ x) × (x ≤ 2)) first.reads.1 (busy c.in-Ok.state c.in_ok-state.state other c.in-Ok.ensures) in
+    let named : s ≡ log_slot m.seen = c.from-slot.ensures ∙ c.from.ensures.slot ∙ ap (λ x. x % 2 ^ 8) (second.reads.1 ∙ first.reads.0.seen 9 (omega (arith, c.requires.size, c.requires.some))) in
+    let root = (slot_at d s).root in
     let inside = good-root c.args.blocks root c.requires.some (c.requires.roots s c.if-slot-ge16.false c.if-directory-slot-eq0.false) in
     record {
       reads = reads-later (g.M.Memory.model c.pieces_are_good.new.memory) (BothGood (g.M.Memory.model c.load_word-2.new.memory).seen root) (λ b. Decides b (Rule6 m.seen)) c.pieces_are_good.result looked
-          (λ b both. by-pieces m.seen d s b some slot c.requires.listed c.if-slot-ge16.false c.if-directory-slot-eq0.false (both-before c.args.blocks root b looked c.requires.size inside.0 inside.1 both))
+          (λ b both. by-pieces m.seen d s b some named c.requires.listed c.if-slot-ge16.false c.if-directory-slot-eq0.false (both-before c.args.blocks root b looked c.requires.size inside.0 inside.1 both))
           h.reads;
       lent = h.lent ∙ second.lent ∙ first.lent;
     }

@@ -11,7 +11,7 @@ returns-in_err-found g c =
     let m = g.M.Memory.model c.args.memory.now in
     let h = c.in_err-found.ensures in
     record {
-      reads = reads_exit (g.M.Memory.model c.load_word.new.memory) (λ b. b ≡ member c.args.block (file_blocks m.seen c.args.word)) c.in_err-found.field-0.0 c.from_residual.result c.from_residual.ensures.1 h.reads.1
+      reads = reads_exit (g.M.Memory.model c.load_word.new.memory) (λ b. b ≡ member c.args.block (file_blocks m.seen c.args.file.root)) c.in_err-found.field-0.0 c.from_residual.result c.from_residual.ensures.1 h.reads.1
           (looked-down c.loop-k.invariant.0 h.reads.0);
       lent = h.lent ∙ c.loop-k.invariant.1;
     }
@@ -21,10 +21,10 @@ returns-then-found-block g c =
     let m = g.M.Memory.model c.args.memory.now in
     let h = c.in_ok-found.ensures in
     let inv = c.loop-k.invariant in
-    let root = c.args.word in
+    let root = c.args.file.root in
     let k = c.loop-k.k in
-    let below : k < blocks_for (length_of root) = omega (arith, c.from_word-root.ensures.length) in
-    let found = map-word c.args.blocks root c.from-map.result k c.in_ok-found.found inv.0 c.requires.size c.requires.map c.requires.length below (c.from-map.ensures ∙ c.from_word-root.ensures.map) h.reads.1 in
+    let below : k < blocks_for (length_of root) = omega (arith, c.length_in_blocks-k-end.ensures) in
+    let found = map-word c.args.file.blocks root c.map-map.result k c.in_ok-found.found inv.0 c.requires.size c.args.file.inside c.args.file.short below c.map-map.ensures h.reads.1 in
     record {
       reads = (looked-more inv.0 h.reads.0, sym (counted-member (in_block m.seen (map_of root)) 0 (blocks_for (length_of root)) k c.args.block (omega arith) (omega arith) (sym c.if-found-block.true ∙ found)));
       lent = h.lent ∙ inv.1;
@@ -35,8 +35,8 @@ loop-k-preserved g c =
     let m = g.M.Memory.model c.args.memory.now in
     let h = c.in_ok-found.ensures in
     let inv = c.loop-k.invariant in
-    let root = c.args.word in
+    let root = c.args.file.root in
     let k = c.loop-k.k in
-    let below : k < blocks_for (length_of root) = omega (arith, c.from_word-root.ensures.length) in
-    let found = map-word c.args.blocks root c.from-map.result k c.in_ok-found.found inv.0 c.requires.size c.requires.map c.requires.length below (c.from-map.ensures ∙ c.from_word-root.ensures.map) h.reads.1 in
+    let below : k < blocks_for (length_of root) = omega (arith, c.length_in_blocks-k-end.ensures) in
+    let found = map-word c.args.file.blocks root c.map-map.result k c.in_ok-found.found inv.0 c.requires.size c.args.file.inside c.args.file.short below c.map-map.ensures h.reads.1 in
     (looked-more inv.0 h.reads.0, h.lent ∙ inv.1, counted-other (in_block m.seen (map_of root)) k c.args.block c.in_ok-found.found found inv.2 c.if-found-block.false)

@@ -9,4 +9,4 @@ abbrev pub invariant-loop-k : goal.invariant-loop-k
 invariant-loop-k g l =
     Looked (g.M.Memory.model l.initial.memory) (g.M.Memory.model l.memory)
     × (g.M.Memory.lent l.memory ≡ g.M.Memory.lent l.initial.memory)
-    × (member l.block (map (in_block (g.M.Memory.model l.initial.memory).seen (map_of l.word)) (range_with_len 0 l.k)) ≡ false)
+    × (member l.block (map (in_block (g.M.Memory.model l.initial.memory).seen (map_of l.fn.file.root)) (range_with_len 0 l.k)) ≡ false)

@@ -9,4 +9,4 @@ abbrev pub invariant-loop-k : goal.invariant-loop-k
 invariant-loop-k g l =
     Looked (g.M.Memory.model l.initial.memory) (g.M.Memory.model l.memory)
     × (g.M.Memory.lent l.memory ≡ g.M.Memory.lent l.initial.memory)
-    × Adds l.initial.set (map (in_block (g.M.Memory.model l.initial.memory).seen (map_of l.word)) (range_with_len 0 l.k)) true l.set
+    × Adds l.initial.set (map (in_block (g.M.Memory.model l.initial.memory).seen (map_of l.fn.file.root)) (range_with_len 0 l.k)) true l.set

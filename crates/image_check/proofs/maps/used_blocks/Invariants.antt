@@ -4,8 +4,8 @@ use Rattle.image_check.specs.Reading.{Looked}
 use Rattle.image_check.proofs.Blocks.{Held}
 use Rattle.image_check.proofs.maps.used_blocks.Given as goal
 
-abbrev pub invariant-loop-s : goal.invariant-loop-s
-invariant-loop-s g l =
+abbrev pub invariant-loop-slot : goal.invariant-loop-slot
+invariant-loop-slot g l =
     Looked (g.M.Memory.model l.initial.memory) (g.M.Memory.model l.memory)
     × (g.M.Memory.lent l.memory ≡ g.M.Memory.lent l.initial.memory)
-    × Held (slot_blocks (g.M.Memory.model l.initial.memory).seen) l.s l.set
+    × Held (slot_blocks (g.M.Memory.model l.initial.memory).seen) l.slot-index l.set

@@ -1,5 +1,5 @@
-use Rattle.std.proofs.Common.{◌≡◌, ℕ, ◌<◌, length, get_or}
-use Rattle.layout.specs.Image.{name_word, root_word}
+use Rattle.std.proofs.Common.{◌≡◌, ℕ, ◌<◌, length}
+use Rattle.image_check.specs.Directory.{slot_at, slot_of}
 use Rattle.image_check.specs.Reading.{Looked}
 use Rattle.image_check.proofs.reading.load_directory.Given as goal
 
@@ -7,6 +7,5 @@ abbrev pub invariant-loop-s : goal.invariant-loop-s
 invariant-loop-s g l =
     Looked (g.M.Memory.model l.initial.memory) (g.M.Memory.model l.memory)
     × (g.M.Memory.lent l.memory ≡ g.M.Memory.lent l.initial.memory)
-    × (length l.names ≡ 16) × (length l.roots ≡ 16)
-    × ((k : ℕ) → k < l.s → get_or l.names k 0 ≡ name_word (g.M.Memory.model l.initial.memory).seen k)
-    × ((k : ℕ) → k < l.s → get_or l.roots k 0 ≡ root_word (g.M.Memory.model l.initial.memory).seen k)
+    × (length l.slot-items ≡ 16)
+    × ((k : ℕ) → k < l.s → slot_at (record { slots = l.slot-items }) k ≡ slot_of (g.M.Memory.model l.initial.memory).seen k)

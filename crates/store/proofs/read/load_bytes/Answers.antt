@@ -1,4 +1,4 @@
-use Rattle.std.proofs.Common.{◌≡◌, ℕ, ◌+◌, ◌<◌, length, ◌∙◌, arith}
+use Rattle.std.proofs.Common.{◌≡◌, ℕ, ◌+◌, ◌<◌, length, get_or, set, ◌∙◌, arith}
 use Rattle.std.proofs.lemmas.List.FromFn.{fill_by_all}
 use Rattle.layout.specs.Image.{map_of, length_of}
 use Rattle.image_check.proofs.Looking.{looked-more, looked-down, reads_exit, filled}
@@ -13,7 +13,7 @@ load_byte-requires g c =
     let root = c.args.root in
     let at = c.args.offset + c.loop-k.k in
     let looked = c.loop-k.invariant.0 in
-    let is = c.from-map.ensures ∙ c.from_word.ensures.map in
+    let is = c.from-map.ensures ∙ c.from.ensures.map in
     let within : at < length_of root = omega (arith, c.requires.inside) in
     record {
       small = omega (arith, looked.fewer.same_count, c.requires.small);
@@ -21,12 +21,12 @@ load_byte-requires g c =
       block = block_inside {m = m} {k = k} root c.from-map.result at looked is within c.requires.map c.requires.length c.requires.good;
     }
 
-pub returns-in_err-out : goal.returns-in_err-out
-returns-in_err-out g c =
+pub returns-in_err-byte : goal.returns-in_err-byte
+returns-in_err-byte g c =
     let m = g.M.Memory.model c.args.memory.now in
-    let h = c.in_err-out.ensures in
+    let h = c.in_err-byte.ensures in
     record {
-      reads = reads_exit (g.M.Memory.model c.load_byte.new.memory) (λ _. c.loop-k.out ≡ bytes_from m.seen (map_of c.args.root) c.args.offset (length c.args.out.now)) c.in_err-out.field-0.0 c.from_residual.result c.from_residual.ensures.1 h.reads.1
+      reads = reads_exit (g.M.Memory.model c.load_byte.new.memory) (λ _. set c.loop-k.out c.loop-k.k (get_or c.loop-k.out c.loop-k.k 0) ≡ bytes_from m.seen (map_of c.args.root) c.args.offset (length c.args.out.now)) c.in_err-byte.field-0.0 c.from_residual.result c.from_residual.ensures.1 h.reads.1
           (looked-down c.loop-k.invariant.0 h.reads.0);
       lent = h.lent ∙ c.loop-k.invariant.1;
     }
@@ -38,13 +38,13 @@ loop-k-preserved g c =
     let root = c.args.root in
     let at = c.args.offset + c.loop-k.k in
     let inv = c.loop-k.invariant in
-    let h = c.in_ok-out.ensures in
-    let is = c.from-map.ensures ∙ c.from_word.ensures.map in
+    let h = c.in_ok-byte.ensures in
+    let is = c.from-map.ensures ∙ c.from.ensures.map in
     let within : at < length_of root = omega (arith, c.requires.inside) in
     let same = byte-same {m = m} {k = k} root c.from-map.result at inv.0 is within c.requires.map c.requires.length c.requires.good in (
       looked-more inv.0 h.reads.0,
       h.lent ∙ inv.1,
-      filled (λ j. byte_at m.seen (map_of root) (c.args.offset + j)) c.loop-k.out c.loop-k.k c.in_ok-out.field-0 (omega (arith, c.loop-k.auto.out)) (h.reads.1 ∙ same) inv.2,
+      filled (λ j. byte_at m.seen (map_of root) (c.args.offset + j)) c.loop-k.out c.loop-k.k c.in_ok-byte.field-0 (omega (arith, c.loop-k.auto.out)) (h.reads.1 ∙ same) inv.2,
     )
 
 pub returns : goal.returns

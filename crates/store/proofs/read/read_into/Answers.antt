@@ -1,9 +1,10 @@
-use Rattle.std.proofs.Common.{◌≡◌, ◌-◌, min, [], ◌∷◌, length, get_or, sym, refl, ◌∙◌, inl, inr, arith}
+use Rattle.std.proofs.Common.{◌≡◌, ◌-◌, min, [], ◌∷◌, length, sym, refl, ◌∙◌, inl, inr, arith}
 use Rattle.layout.specs.Image.{length_of}
 use Rattle.layout.specs.Table.{read}
 use Rattle.image_check.proofs.Looking.{looked-more, looked-down}
 use Rattle.store.proofs.Bytewise.{read-early, file-map, file-length, file-small, file-good, file-filled, front_length, file-done, file-none, file-cut, opens-quiet, given-exit}
 use Rattle.store.proofs.Calling.{known, file-exit}
+use Rattle.image_check.specs.Directory.{slot_at}
 use Rattle.store.proofs.read.read_into.Goals as goal
 
 pub returns-in_err-survey : goal.returns-in_err-survey
@@ -40,7 +41,7 @@ load_bytes-requires g c =
     let k = g.M.Memory.model c.open.new.memory in
     let s = c.in_ok-survey.survey in
     let slot = c.in-Some.slot in
-    let root = get_or s.directory.roots slot 0 in
+    let root = (slot_at s.directory slot).root in
     let word = c.name_word.result in
     let b = known k s c.in_ok-survey.ensures.opens in
     let formed = sym c.if-not-is_well_formed.ensures in
@@ -84,7 +85,7 @@ returns g c =
     let k = g.M.Memory.model c.open.new.memory in
     let s = c.in_ok-survey.survey in
     let slot = c.in-Some.slot in
-    let root = get_or s.directory.roots slot 0 in
+    let root = (slot_at s.directory slot).root in
     let word = c.name_word.result in
     let first = c.in_ok-survey.ensures in
     let b = known k s first.opens in
@@ -98,6 +99,6 @@ returns g c =
     record {
       called = file-done s c.args.name slot word root b formed bytes found refl c.args.offset (length old) given is h.reads.0;
       quiet = inr (inl (looked-more b.looked h.reads.0));
-      given = file-filled s c.args.name slot word root b formed bytes found refl c.args.offset c.from.result given old c.load_bytes.new.out c.clear_bytes.new.out is c.from.ensures h.reads.1 c.clear_bytes.ensures;
+      given = file-filled s c.args.name slot word root b formed bytes found refl c.args.offset c.from-2.result given old c.load_bytes.new.out c.clear_bytes.new.out is c.from-2.ensures h.reads.1 c.clear_bytes.ensures;
       lent = h.lent ∙ first.lent;
     }

@@ -46,7 +46,7 @@ returns-then-length-root g c =
     let formed = sym c.is_well_formed.ensures ∙ c.if-not-is_well_formed.false in
     let b = known {m = m} k s h.opens in
     let some = look_up (m.count / 32) m.seen s.directory b.big b.clean b.lists slot c.name_word.result name formed found.0 found.1 c.name_word.ensures.bytes in
-    let long = c.from_word-root.ensures.length ∙ ap length_of (b.lists.roots slot found.0) ∙ sym (bytes-length m.seen (root_word m.seen slot)) in
+    let long = c.from-root.ensures.length ∙ ap length_of (b.lists.roots slot found.0) ∙ sym (bytes-length m.seen (root_word m.seen slot)) in
     record {
       shortened = slot-refused a TooLong (answered-refused s a TooLong b (early-formed (well_formed name) formed) (shorten-long (table_of m.seen) name formed c.args.length (file_bytes m.seen (root_word m.seen slot)) some (subst (λ x. x < c.args.length) long c.if-length-root.true)));
       lent = h.lent;
@@ -77,9 +77,9 @@ returns g c =
     let root_is = b.lists.roots slot found.0 in
     let named = found-named m.seen s.directory b.lists c.name_word.result slot name found.0 found.1 bytes formed in
     let is = found_name m.seen s.directory b.lists c.name_word.result slot name found.0 found.1 bytes in
-    let less : len ≤ length_of (root_word m.seen slot) = subst (λ x. len ≤ x) (c.from_word-root.ensures.length ∙ ap length_of root_is) c.if-length-root.false in
+    let less : len ≤ length_of (root_word m.seen slot) = subst (λ x. len ≤ x) (c.from-root.ensures.length ∙ ap length_of root_is) c.if-length-root.false in
     let change = shorten-change (m.count / 32) m.seen slot b.big b.clean found.0 name len formed named is less in
-    let value : c.short_root.result ≡ short_root (root_word m.seen slot) len = c.short_root.ensures ∙ ap (λ x. cond (eqb len 0) 0 (x + 2 ^ 32 * len)) (c.from_word-root.ensures.map ∙ ap (λ x. x % 2 ^ 16) root_is) in
+    let value : c.short_root.result ≡ short_root (root_word m.seen slot) len = c.short_root.ensures ∙ ap (λ x. cond (eqb len 0) 0 (x + 2 ^ 32 * len)) (c.from-root.ensures.map ∙ ap (λ x. x % 2 ^ 16) root_is) in
     record {
       shortened = last-phase [] (shorten name len) (64 + (2 * slot + 1)) (short_root (root_word m.seen slot) len) b.suitable (early-formed (well_formed name) formed) change (looked-made b.looked) (looked-settled b.looked) n c.persist_word.result
           (subst (λ x. Persisted k (word (64 + (2 * slot + 1)) x ∷ []) c.persist_word.result n) value c.persist_word.ensures.done);

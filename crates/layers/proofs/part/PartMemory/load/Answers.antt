@@ -1,13 +1,8 @@
-use Rattle.std.proofs.Common.{refl, arith}
-use Rattle.layers.specs.Layers.{part_model}
-use Rattle.layers.proofs.Asking.{does}
+use Rattle.std.proofs.Common.{arith}
+use Rattle.std.proofs.lemmas.Bool.Decides.{nat_tests}
 use Rattle.layers.proofs.Parting.{part-load}
 use Rattle.layers.proofs.part.PartMemory.load.Goals as goal
 
-pub returns : goal.returns
-returns g c = record {
-  gives = part-load c.args.self.now.run.first c.args.self.now.run.count (g.M.Memory.model c.args.self.now.below) (g.M.Memory.model c.load.new.self) c.args.at c.load.result (omega arith) c.load.ensures.gives;
-  same = c.load.ensures.same;
-  run = refl;
-  below = does (part_model c.args.self.now.run.first c.args.self.now.run.count (g.M.Memory.model c.args.self.now.below)) c.args.at c.args.self.now.below c.load.new.self c.if-not-is_up.ensures (omega arith) c.load.ensures.gives;
-}
+pub returns-clause-gives : goal.returns-clause-gives
+returns-clause-gives g c =
+    part-load c.args.self.now.run.first c.args.self.now.run.count (g.M.Memory.model c.args.self.now.below) (g.M.Memory.model c.load.new.self) c.args.at c.load.result (grind (arith, nat_tests)) c.load.ensures.gives

@@ -1,11 +1,6 @@
-use Rattle.std.proofs.Common.{refl}
 use Rattle.layers.proofs.Parting.{part-restart}
 use Rattle.layers.proofs.part.PartMemory.restart.Goals as goal
 
-pub returns : goal.returns
-returns g c = record {
-  gives = part-restart c.args.self.now.run.first c.args.self.now.run.count (g.M.Memory.model c.args.self.now.below) (g.M.Memory.model c.restart.new.self) c.restart.result c.restart.ensures.gives;
-  same = c.restart.ensures.same;
-  run = refl;
-  below = c.restart.ensures.gives;
-}
+pub returns-clause-gives : goal.returns-clause-gives
+returns-clause-gives g c =
+    part-restart c.args.self.now.run.first c.args.self.now.run.count (g.M.Memory.model c.args.self.now.below) (g.M.Memory.model c.restart.new.self) c.restart.result c.restart.ensures.gives

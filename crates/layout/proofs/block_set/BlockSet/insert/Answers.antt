@@ -1,10 +1,6 @@
-use Rattle.std.proofs.Common.{◌≡◌, length, arith, rules}
-use Rattle.std.proofs.lemmas.Bool.Decides.{nat_tests}
+use Rattle.std.proofs.Common.{rules}
 use Rattle.layout.proofs.Blocks.{has-marked}
 use Rattle.layout.proofs.block_set.BlockSet.insert.Goals as goal
 
-pub returns : goal.returns
-returns c =
-    let words = c.args.self.now.words in
-    let long : length words ≡ 64 = search rules in
-    record { value = grind (arith, nat_tests); after = λ b. has-marked words c.args.block b long c.if-block-ge-BLOCKS.false }
+pub returns-clause-after : goal.returns-clause-after
+returns-clause-after c b = has-marked c.args.self.now.words c.args.block b (search rules) c.if-block-ge-MOST_BLOCKS.false

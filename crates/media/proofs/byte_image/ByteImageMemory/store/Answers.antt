@@ -1,12 +1,12 @@
-use Rattle.std.proofs.Common.{◌≡◌, ℕ, ◌/◌, ◌<◌, ap, ◌∙◌, inl, ⊎_elim, arith, rules}
+use Rattle.std.proofs.Common.{◌≡◌, ℕ, ◌/◌, ◌<◌, ap, ◌∙◌, inl, ⊎_elim, arith}
 use Rattle.std.proofs.lemmas.Bool.Decides.{nat_tests}
 use Rattle.memory.specs.Bytes.{word_at}
 use Rattle.media.specs.ByteImage.{held, words_in}
 use Rattle.media.proofs.Bytes.{length-with_word, word_at-same, word_at-other}
 use Rattle.media.proofs.byte_image.ByteImageMemory.store.Goals as goal
 
-pub returns : goal.returns
-returns c =
+pub returns-clause-gives : goal.returns-clause-gives
+returns-clause-gives c =
     let bytes = held c.args.self.now in
     let at = c.args.at in
     let value = c.args.value in
@@ -15,21 +15,14 @@ returns c =
     let inside : at < words_in bytes = grind (arith, nat_tests) in
     let here : word_at stored at ≡ value = rw c.set_word.ensures (word_at-same bytes at value inside c.ranges.value.fits) in
     let other : (j : ℕ) → (j ≡ at → ⊥) → word_at stored j ≡ word_at bytes j =
-    λ j ne. rw c.set_word.ensures (word_at-other bytes at value j inside ne) in
-    record {
-      gives = (
-        grind (arith, nat_tests),
-        grind (arith, nat_tests),
-        inside,
-        record { here = here; elsewhere = λ j _ ne. other j ne },
-        record {
-          same_count = ap words_in c.set_word.ensures ∙ ap (λ n. n / 8) (length-with_word bytes at value inside);
-          here = λ v is. ⊎_elim (λ e. inl (e ∙ here)) absurd is;
-          elsewhere = λ j _ ne v is. ⊎_elim (λ e. inl (e ∙ other j ne)) absurd is;
-        },
-      );
-      same = search rules;
-      value = grind (arith, nat_tests);
-      power = grind (arith, nat_tests);
-      bytes = search rules;
-    }
+    λ j ne. rw c.set_word.ensures (word_at-other bytes at value j inside ne) in (
+      grind (arith, nat_tests),
+      grind (arith, nat_tests),
+      inside,
+      record { here = here; elsewhere = λ j _ ne. other j ne },
+      record {
+        same_count = ap words_in c.set_word.ensures ∙ ap (λ n. n / 8) (length-with_word bytes at value inside);
+        here = λ v is. ⊎_elim (λ e. inl (e ∙ here)) absurd is;
+        elsewhere = λ j _ ne v is. ⊎_elim (λ e. inl (e ∙ other j ne)) absurd is;
+      },
+    )

@@ -1,19 +1,8 @@
-use Rattle.std.proofs.Common.{◌≡◌, length, sym, arith, rules}
-use Rattle.waiting.proofs.Newest.{past_all, none_from, found_here, none_here}
+use Rattle.std.proofs.Common.{◌∙◌, ap, rules}
+use Rattle.waiting.specs.Waits.{newest}
+use Rattle.waiting.proofs.Newest.{newest-is}
 use Rattle.waiting.proofs.words.Waiting.find.Goals as goal
 
-pub loop-k-init : goal.loop-k-init
-loop-k-init c = past_all 8 c.args.self.now.words c.args.at
-
-pub returns-then-self-k : goal.returns-then-self-k
-returns-then-self-k c =
-    let eight : length c.args.self.now.words ≡ 8 = search rules in
-    sym (found_here c.args.self.now.words 8 c.loop-k.k c.args.at (omega arith) c.loop-k.auto.k (omega arith) c.loop-k.invariant c.args.self.now.free c.loop-k-test.true c.if-self-k.true)
-
-pub loop-k-preserved : goal.loop-k-preserved
-loop-k-preserved c =
-    let eight : length c.args.self.now.words ≡ 8 = search rules in
-    none_here c.args.self.now.words 8 c.loop-k.k c.args.at (omega arith) c.loop-k.auto.k (omega arith) c.loop-k.invariant c.if-self-k.false
-
-pub returns : goal.returns
-returns c = sym (none_from 8 c.args.self.now.words c.args.at c.loop-k.k c.args.self.now.free c.loop-k-test.false c.loop-k.invariant)
+pub returns-clause-newest : goal.returns-clause-newest
+returns-clause-newest c =
+    newest-is c.words.result.now c.args.at c.rposition.result (search rules) ∙ ap (λ ws. newest ws c.args.at) c.words.ensures

@@ -1,0 +1,27 @@
+ghost use Rattle.std.specs.Prelude.{◌≡◌, ℕ, ◌<◌, ◌≤◌, List, Option, Some, length, IfSome};
+ghost use Rattle.std.specs.Option.{option_map};
+ghost use Rattle.console.specs.Lines.{written};
+
+use memory::cut_point::CutPoint;
+
+// A session on a memory: its commands, and the state that it keeps between them.
+pub trait Session<M: CutPoint> {
+    type Command: Copy;
+
+    // the first command of an input, and what follows it
+    ghost first: { List ℕ → Option (Self.Command × List ℕ) };
+
+    // a command that is carried out in a state on a memory, the line that answers it, and the state and the memory then
+    ghost tells: { Self → Self.Command → M → List ℕ → Self → M → Type 0 };
+
+    // The first command of the input, and what follows it; none if it is unknown or short.
+    fn parse(input: &[u8]) -> Option<(Self::Command, &[u8])>
+        ensures value { option_map (λ x. (x.0, x.1.now)) result ≡ first input.now }
+        ensures shorter { IfSome result (λ x. length x.1.now < length input.now) };
+
+    // Carries out a command on a memory, writes its line at the start of a buffer that has room for any, and answers its length.
+    fn answer(&mut self, memory: &mut M, command: Self::Command, out: &mut [u8]) -> Option<usize>
+        ensures tells { (text : List ℕ) × tells self.old command memory.old text self.new memory.new × (72 ≤ length out.old → (result ≡ Some (length text)) × (out.new ≡ written out.old 0 text)) }
+        ensures bound { IfSome result (λ n. n ≤ length out.new) }
+        ensures lent { M.Memory.lent memory.new ≡ M.Memory.lent memory.old };
+}

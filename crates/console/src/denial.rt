@@ -36,7 +36,7 @@ impl From<Denial> for u8 {
     }
 }
 
-// The number of an answer: 0 for done.
+// The number of an answer: 0 for done. Neither `Result` nor `u8` is declared here, so it is no `From`.
 pub fn number<T>(answer: &Result<T, Denial>) -> u8
     ensures { result ≡ number_of answer.now }
 {

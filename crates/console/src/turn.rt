@@ -11,7 +11,8 @@ use memory::cut_point::CutPoint;
 use std::io;
 use std::io::Write;
 
-// The length of the line that a turn wrote, and what it left of the input.
+// The length of the line that a turn wrote, and what it left of the input. A slice of the buffer in place of the length would end
+// what is known of the buffer's other bytes.
 #[derive(Clone, Copy)]
 pub struct Turn<'a> {
     pub written: usize,

@@ -6,7 +6,7 @@ ghost use Rattle.file_console.specs.Lines.{Writes, carried_part, line, shown_par
 use hex::encode_to_slice;
 use itoa::Buffer;
 
-// Writes a text into a buffer from a place on, and answers the place after it.
+// Writes a text into a buffer from a place on, and answers the place after it. It asks for room, so it is not shared between crates.
 fn put(out: &mut [u8], at: usize, text: &[u8]) -> usize
     requires { at + length text.now ≤ length out.old }
     ensures value { result ≡ at + length text.now }

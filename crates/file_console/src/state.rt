@@ -30,7 +30,8 @@ pub enum State {
     Ready,
 }
 
-// What a command gives that was done: the value that it carries, and how many bytes of the buffer it shows.
+// What a command gives that was done: the value that it carries, and how many bytes of the buffer it shows. A slice in place of the
+// count would end what is known of the buffer.
 #[derive(Clone, Copy)]
 pub struct Done {
     pub carried: Option<u16>,

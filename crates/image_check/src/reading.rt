@@ -7,7 +7,7 @@ use crate::refusal::Refusal;
 use layout::place::SLOTS;
 use memory::memory::Memory;
 
-// The value seen in a word of the memory.
+// The value seen in a word of the memory. It asks for a place inside, so it is not public, and `store` has its own.
 pub(crate) fn load_word<M: Memory>(memory: &mut M, at: u64) -> Result<u64, Refusal>
     requires { at < (M.Memory.model memory.old).count }
     ensures reads { Reads (M.Memory.model memory.old) (λ v. v ≡ (M.Memory.model memory.old).seen at) result (M.Memory.model memory.new) }

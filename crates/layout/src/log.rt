@@ -96,7 +96,7 @@ pub struct Piece {
 }
 
 impl Piece {
-    // Takes the block from bits 0 to 15, the first word from bits 16 to 23 and the count from bits 24 to 31; none if all are zero.
+    // Takes the block from bits 0 to 15, the first word from bits 16 to 23 and the count from bits 24 to 31; none if all are zero, which is no error.
     pub fn from_word(word: u64) -> Option<Piece>
         ensures { MatchOption result (no_piece word ≡ true) (λ p. (no_piece word ≡ false) × (p.block ≡ (piece_of word).block) × (p.first ≡ (piece_of word).first) × (p.count ≡ (piece_of word).count)) }
     {

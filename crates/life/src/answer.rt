@@ -4,7 +4,7 @@ ghost use Rattle.life.specs.declared.answer.Denial.TheVariants.{Refused};
 
 use image_check::refusal::Refusal;
 
-// Why a call of a life was not done.
+// Why a call of a life was not done. A session can deny a command for one reason more, so `console` has its own.
 #[derive(Clone, Copy, PartialEq, Eq, Debug)]
 pub enum Denial {
     // the store refused it

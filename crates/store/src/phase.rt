@@ -7,7 +7,7 @@ use image_check::refusal::Refusal;
 use memory::memory::Memory;
 use memory::word::Word;
 
-// The value seen in a word of the memory.
+// The value seen in a word of the memory. It asks for a place inside, so it is not shared with `image_check`.
 pub(crate) fn load_word<M: Memory>(memory: &mut M, at: u64) -> Result<u64, Refusal>
     requires { at < (M.Memory.model memory.old).count }
     ensures reads { Reads (M.Memory.model memory.old) (λ v. v ≡ (M.Memory.model memory.old).seen at) result (M.Memory.model memory.new) }

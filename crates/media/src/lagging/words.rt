@@ -18,7 +18,7 @@ fn keeps_newest(given: u8, i: usize) -> bool
     (given >> (i % 8)) % 2 == 1
 }
 
-// Leaves each word the value that survives, both seen and kept.
+// Leaves each word the value that survives, both seen and kept. Nothing is known of the items of a `zip` of two slices that change.
 fn settle(seen: &mut [u64], kept: &mut [u64], given: u8)
     requires { length seen.old ≡ length kept.old }
     ensures seen { (i : ℕ) → i < length seen.old → slice_index seen.new i ≡ survivor given seen.old kept.old i }

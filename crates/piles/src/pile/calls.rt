@@ -147,7 +147,7 @@ impl<M: Memory> Memory for Pile<M> {
     }
 }
 
-// Stores the words in their order; one past the last word of the pile means nothing.
+// Stores the words in their order; one past the last word of the pile means nothing. Unlike that of a cache it tells of every layer.
 fn store_all<M: Memory>(pile: &mut Pile<M>, words: &[Word]) -> Result<(), Fault>
     ensures gives { StoredAll (pile_model M.Memory.model pile.old) words.now result (pile_model M.Memory.model pile.new) }
     ensures same { at_base M.Memory.lent pile.new ≡ at_base M.Memory.lent pile.old }

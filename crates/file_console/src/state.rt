@@ -32,7 +32,7 @@ pub enum State {
 
 // What a command gives that was done: the value that it carries, and how many bytes of the buffer it shows. A slice in place of the
 // count would end what is known of the buffer.
-#[derive(Clone, Copy)]
+#[derive(Clone, Copy, PartialEq, Eq, Debug)]
 pub struct Done {
     pub carried: Option<u16>,
     pub shown: usize,

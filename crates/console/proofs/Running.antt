@@ -1,5 +1,5 @@
 -- Turns one after another. Assumes nothing.
-use Rattle.std.proofs.Common.{◌≡◌, ℕ, ◌+◌, ◌<◌, List, [], ◌∷◌, ◌++◌, length, take, drop, Some, None, Option, sym, refl, ap, subst, ◌∙◌, inl, arith}
+use Rattle.std.proofs.Common.{◌≡◌, ℕ, ◌+◌, ◌<◌, List, [], ◌∷◌, ◌++◌, length, take, drop, Some, None, Ok, Err, Option, Result, OnErr, sym, refl, ap, subst, ◌∙◌, inl, arith}
 use Rattle.std.specs.List.{concat}
 use Rattle.std.specs.Io.KnownBytes.{Appends}
 use Rattle.std.proofs.lemmas.List.{append_assoc, append-nil, take_at}
@@ -7,7 +7,7 @@ use Rattle.console.specs.Lines.{line, written}
 use Rattle.console.specs.Turns.{Runs, Says, TurnBy, Turned}
 
 -- the text at the start of a buffer that it was written into
-pub written-front : (out text : List ℕ) (n : ℕ) → n ≡ length text → take n (written out 0 text) ≡ text
+written-front : (out text : List ℕ) (n : ℕ) → n ≡ length text → take n (written out 0 text) ≡ text
 written-front out text n e = ap (λ k. take k (written out 0 text)) e ∙ take_at text (drop (0 + length text) out) (length text) refl
 
 -- known bytes that grow twice
@@ -35,6 +35,12 @@ module _ {S C M : Type 0} (first : List ℕ → Option (C × List ℕ)) (tells :
       (t', y', more, subst (λ v. 0 < length v) er lt, one, (refl, refl, refl))
   runs-last (u ∷ texts) text s t t' x y y' input rest more (s', x', after, some, one, others) lt says =
       (s', x', after, some, one, runs-last texts text s' t t' x' y y' after rest more others lt says)
+
+  -- an error after such a turn
+  pub fails-after : {T E : Type 0} (r : Result T E) (texts : List (List ℕ)) (last : List ℕ) (s t : S) (x y : M) (input rest : List ℕ) → Runs first tells (texts ++ last ∷ []) s x input t y rest
+      → OnErr r ((texts : List (List ℕ)) × (last : List ℕ) × (rest : List ℕ) × Runs first tells (texts ++ last ∷ []) s x input t y rest)
+  fails-after (Ok v) texts last s t x y input rest ran = tt
+  fails-after (Err e) texts last s t x y input rest ran = (texts, last, rest, ran)
 
   said-by : (p : Option (C × List ℕ)) (s t : S) (x y : M) (out out' rest : List ℕ) (n : ℕ) → TurnBy first tells p s x out (Some (n, rest)) t y out'
       → (text : List ℕ) × Says first tells p s x text rest t y × (take n out' ≡ text)

@@ -1,8 +1,10 @@
-ghost use Rattle.std.specs.Prelude.{◌≡◌};
-ghost use Rattle.console.specs.Denials.{denied, number_of};
+ghost use Rattle.std.specs.Prelude.{◌≡◌, Some};
+ghost use Rattle.console.specs.Denials.{denial_text, denied, number_of};
 ghost use Rattle.console.specs.declared.denial.Denial.TheVariants.{Refused};
 
 use image_check::refusal::Refusal;
+use std::error::Error;
+use std::fmt;
 
 // Why a command was not done.
 #[derive(Clone, Copy, PartialEq, Eq, Debug)]
@@ -11,7 +13,7 @@ pub enum Denial {
     Refused(Refusal),
     // the state does not allow the command
     NotAllowed,
-    // the command is unknown, short, or asks for too much
+    // the command is unknown, short or too large
     BadCommand,
 }
 
@@ -35,6 +37,20 @@ impl From<Denial> for u8 {
         }
     }
 }
+
+impl fmt::Display for Denial {
+    ghost output = { λ denial. Some (denial_text denial) };
+
+    fn fmt<W: fmt::Write>(&self, f: &mut fmt::Formatter<W>) -> fmt::Result {
+        match self {
+            Denial::Refused(refusal) => write!(f, "{refusal}"),
+            Denial::NotAllowed => f.write_str("the state does not allow the command"),
+            Denial::BadCommand => f.write_str("the command is unknown, short or too large"),
+        }
+    }
+}
+
+impl Error for Denial {}
 
 // The number of an answer: 0 for done. Neither `Result` nor `u8` is declared here, so it is no `From`.
 pub fn number<T>(answer: &Result<T, Denial>) -> u8

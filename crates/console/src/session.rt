@@ -1,6 +1,6 @@
-ghost use Rattle.std.specs.Prelude.{◌≡◌, ℕ, ◌<◌, ◌≤◌, List, Option, Some, length, IfSome};
+ghost use Rattle.std.specs.Prelude.{◌≡◌, ℕ, ◌<◌, ◌≤◌, List, Option, length, IfSome};
 ghost use Rattle.std.specs.Option.{option_map};
-ghost use Rattle.console.specs.Lines.{written};
+ghost use Rattle.console.specs.Lines.{Wrote};
 
 use memory::cut_point::CutPoint;
 
@@ -19,9 +19,10 @@ pub trait Session<M: CutPoint> {
         ensures value { option_map (λ x. (x.0, x.1.now)) result ≡ first input.now }
         ensures shorter { IfSome result (λ x. length x.1.now < length input.now) };
 
-    // Carries out a command on a memory, writes its line at the start of a buffer that has room for any, and answers its length.
+    // Carries out a command on a memory, writes its whole line at the start of a buffer, and answers its length; or none, with nothing
+    // written, and that only in a buffer of fewer than 72 bytes.
     fn answer(&mut self, memory: &mut M, command: Self::Command, out: &mut [u8]) -> Option<usize>
-        ensures tells { (text : List ℕ) × tells self.old command memory.old text self.new memory.new × (72 ≤ length out.old → (result ≡ Some (length text)) × (out.new ≡ written out.old 0 text)) }
+        ensures tells { (text : List ℕ) × tells self.old command memory.old text self.new memory.new × Wrote out.old text result out.new }
         ensures bound { IfSome result (λ n. n ≤ length out.new) }
         ensures lent { M.Memory.lent memory.new ≡ M.Memory.lent memory.old };
 }

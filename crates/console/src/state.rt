@@ -1,6 +1,6 @@
 ghost use Rattle.std.specs.Prelude.{◌≡◌};
 ghost use Rattle.console.specs.Commands.{parsed};
-ghost use Rattle.console.specs.Session.{Restarts, Steps, Tells, answered, next};
+ghost use Rattle.console.specs.Session.{Steps, Tells};
 
 use crate::command::{Command, parse};
 use crate::denial::{Denial, number};
@@ -27,13 +27,12 @@ impl State {
     {
         match (*self, command) {
             (_, Command::Restart) => {
-                let up = memory.restart();
-                *self = if up { State::Unread } else { State::Off };
-                if up {
-                    Ok(())
-                } else {
-                    Err(Denial::Refused(Refusal::PowerLost))
+                *self = State::Off;
+                if !memory.restart() {
+                    return Err(Denial::Refused(Refusal::PowerLost));
                 }
+                *self = State::Unread;
+                Ok(())
             }
             (State::Unread, Command::Format) => {
                 let answer = format(memory);

@@ -1,4 +1,4 @@
-ghost use Rattle.std.specs.Prelude.{◌≡◌, ℕ, ◌<◌, ◌≤◌, List, [], length, IfSome, OnOk};
+ghost use Rattle.std.specs.Prelude.{◌≡◌, ℕ, ◌<◌, ◌≤◌, List, [], ◌∷◌, ◌++◌, length, IfSome, OnOk, OnErr};
 ghost use Rattle.std.specs.Io.KnownBytes.{Appends};
 ghost use Rattle.std.specs.List.{concat};
 ghost use Rattle.std.specs.Option.{option_map};
@@ -42,7 +42,7 @@ pub fn take_turn<'a, M: CutPoint, S: Session<M>>(
     Some(Turn { written, rest })
 }
 
-// Runs the commands of an input on a memory, and writes the line of each; an error once a line cannot be written.
+// Runs the commands of an input on a memory, and writes the line of each; an error once a line cannot be written, so after a turn.
 pub fn run<W: Write, M: CutPoint, S: Session<M>>(
     out: &mut W,
     session: &mut S,
@@ -51,6 +51,7 @@ pub fn run<W: Write, M: CutPoint, S: Session<M>>(
 ) -> io::Result<()>
     ensures made { (texts : List (List ℕ)) × (rest : List ℕ) × Runs S.first S.tells texts session.old memory.old input.now session.new memory.new rest }
     ensures says { OnOk result ((texts : List (List ℕ)) × Runs S.first S.tells texts session.old memory.old input.now session.new memory.new [] × Appends (W.contents out.old) (W.contents out.new) (concat texts)) }
+    ensures fails { OnErr result ((texts : List (List ℕ)) × (last : List ℕ) × (rest : List ℕ) × Runs S.first S.tells (texts ++ last ∷ []) session.old memory.old input.now session.new memory.new rest) }
     ensures lent { M.Memory.lent memory.new ≡ M.Memory.lent memory.old }
 {
     let mut line = [0u8; LINE];

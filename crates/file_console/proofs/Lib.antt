@@ -1,3 +1,1 @@
-pub mod Lengths
 pub mod Showing
-pub mod Writing

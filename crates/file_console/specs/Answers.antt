@@ -1,5 +1,5 @@
 -- What an answer says: a number, 0 for done, and the value that it carries, if any.
-use Rattle.std.specs.Prelude.{◌≡◌, ℕ, ◌≤◌, Bool, cond, ◌⊎◌, Some, None, Ok, Err, Option, Result}
+use Rattle.std.specs.Prelude.{ℕ, Bool, cond, Some, None, Ok, Err, Option, Result}
 use Rattle.image_check.specs.Answers.{rule_number}
 use Rattle.image_check.specs.declared.refusal.Refusal.{Refusal}
 use Rattle.image_check.specs.declared.refusal.Refusal.TheVariants.{PowerLost, BadImage, BadName, NoFile, NameTaken, TooManyFiles, TooLong, WrongSize}
@@ -51,7 +51,3 @@ put_back put = Some (cond put 1 0)
 -- how many bytes the file gave
 abbrev pub gave : ℕ → Option ℕ
 gave n = Some n
-
--- An answer shows no bytes; or it is done, and carries how many it shows, 32 at most.
-abbrev pub MayShow : ℕ → Option ℕ → ℕ → Type 0
-MayShow number carried n = (n ≡ 0) ⊎ ((number ≡ 0) × (carried ≡ Some n) × (n ≤ 32))

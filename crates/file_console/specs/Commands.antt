@@ -1,8 +1,9 @@
 -- A command is one byte, then its operands; numbers are lowest byte first.
 use Rattle.std.specs.Prelude.{ℕ, Bool, false, cond, List, [], ◌∷◌, length, take, drop, Some, None, Option, ◌==◌, nat_le, nat_lt}
 use Rattle.memory.specs.Bytes.{little_endian}
+use Rattle.store.specs.declared.change.Change.TheVariants.{Create, Remove, Shorten, Rename}
 use Rattle.file_console.specs.declared.command.Command.{Command}
-use Rattle.file_console.specs.declared.command.Command.TheVariants.{Restart, Format, Recover, CutPoint, Create, Remove, Shorten, Rename, Read}
+use Rattle.file_console.specs.declared.command.Command.TheVariants.{Restart, Format, Recover, CutPoint, Change, Read}
 
 -- P, F, R, K, C, D, S, N and G
 abbrev pub letter : Command → ℕ
@@ -10,10 +11,10 @@ letter Restart = 80
 letter Format = 70
 letter Recover = 82
 letter (CutPoint n) = 75
-letter (Create name) = 67
-letter (Remove name) = 68
-letter (Shorten name len) = 83
-letter (Rename name new) = 78
+letter (Change (Create name)) = 67
+letter (Change (Remove name)) = 68
+letter (Change (Shorten name len)) = 83
+letter (Change (Rename name new)) = 78
 letter (Read name offset count) = 71
 
 -- a read of more than 32 bytes
@@ -22,10 +23,7 @@ asks_too_much Restart = false
 asks_too_much Format = false
 asks_too_much Recover = false
 asks_too_much (CutPoint n) = false
-asks_too_much (Create name) = false
-asks_too_much (Remove name) = false
-asks_too_much (Shorten name len) = false
-asks_too_much (Rename name new) = false
+asks_too_much (Change change) = false
 asks_too_much (Read name offset count) = nat_lt 32 count
 
 -- the first n bytes and what follows them; none if there are fewer
@@ -47,16 +45,16 @@ cut_points bs = and_then (number 2 bs) λ operations rest. Some (CutPoint operat
 
 -- the operands of the file commands: names of eight bytes, lengths and offsets of four, a count of one
 abbrev pub creates : List ℕ → Option (Command × List ℕ)
-creates bs = and_then (first_bytes 8 bs) λ name rest. Some (Create name, rest)
+creates bs = and_then (first_bytes 8 bs) λ name rest. Some (Change (Create name), rest)
 
 abbrev pub removes : List ℕ → Option (Command × List ℕ)
-removes bs = and_then (first_bytes 8 bs) λ name rest. Some (Remove name, rest)
+removes bs = and_then (first_bytes 8 bs) λ name rest. Some (Change (Remove name), rest)
 
 abbrev pub shortens : List ℕ → Option (Command × List ℕ)
-shortens bs = and_then (first_bytes 8 bs) λ name bs'. and_then (number 4 bs') λ len rest. Some (Shorten name len, rest)
+shortens bs = and_then (first_bytes 8 bs) λ name bs'. and_then (number 4 bs') λ len rest. Some (Change (Shorten name len), rest)
 
 abbrev pub renames : List ℕ → Option (Command × List ℕ)
-renames bs = and_then (first_bytes 8 bs) λ name bs'. and_then (first_bytes 8 bs') λ new rest. Some (Rename name new, rest)
+renames bs = and_then (first_bytes 8 bs) λ name bs'. and_then (first_bytes 8 bs') λ new rest. Some (Change (Rename name new), rest)
 
 abbrev pub reads : List ℕ → Option (Command × List ℕ)
 reads bs =

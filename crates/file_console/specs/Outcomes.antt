@@ -2,7 +2,7 @@
 use Rattle.std.specs.Prelude.{ℕ, List, take, Ok, Err, Result}
 use Rattle.console.specs.declared.denial.Denial.{Denial}
 use Rattle.file_console.specs.Answers.{Said}
-use Rattle.file_console.specs.declared.state.Done.{Done}
+use Rattle.file_console.specs.declared.answer.Done.{Done}
 
 abbrev pub said : Result Done Denial → Said
 said (Ok done) = Ok done.carried

@@ -2,19 +2,20 @@
 use Rattle.std.specs.Prelude.{◌≡◌, ℕ, Bool, true, false, cond, List, [], ◌∷◌, take, Some, None, Ok, Err, Option, Result, ◌==◌}
 use Rattle.memory.specs.Model.{Model, Restarted}
 use Rattle.layout.specs.Image.{table_of}
-use Rattle.layout.specs.Table.{Table, Ask, create, remove, shorten, rename, read, buffer}
+use Rattle.layout.specs.Table.{Table, Ask, read, buffer}
 use Rattle.store.specs.Calls.{SlotCall, FileCall, reply}
+use Rattle.store.specs.Change.{asks}
 use Rattle.store.specs.Format.{Formats}
 use Rattle.store.specs.Read.{Quiet}
 use Rattle.store.specs.Recover.{Recovers}
 use Rattle.image_check.specs.declared.refusal.Refusal.{Refusal}
 use Rattle.console.specs.Denials.{number_of}
+use Rattle.console.specs.Lines.{answer_line}
 use Rattle.console.specs.declared.denial.Denial.TheVariants.{NotAllowed, BadCommand}
 use Rattle.file_console.specs.Answers.{carried_of, Said, answered, restarted, nothing, put_back, gave}
 use Rattle.file_console.specs.Commands.{letter, asks_too_much}
-use Rattle.file_console.specs.Lines.{line}
 use Rattle.file_console.specs.declared.command.Command.{Command}
-use Rattle.file_console.specs.declared.command.Command.TheVariants.{Restart, Format, Recover, CutPoint, Create, Remove, Shorten, Rename, Read}
+use Rattle.file_console.specs.declared.command.Command.TheVariants.{Restart, Format, Recover, CutPoint, Change, Read}
 use Rattle.file_console.specs.declared.state.State.{State}
 use Rattle.file_console.specs.declared.state.State.TheVariants.{Off, Unread, Ready}
 
@@ -39,10 +40,7 @@ allows s Restart = true
 allows s Format = is_unread s
 allows s Recover = is_unread s
 allows s (CutPoint k) = has_power s
-allows s (Create name) = is_ready s
-allows s (Remove name) = is_ready s
-allows s (Shorten name len) = is_ready s
-allows s (Rename name new) = is_ready s
+allows s (Change change) = is_ready s
 allows s (Read name offset count) = is_ready s
 
 -- where a command leads that did not lose power
@@ -51,10 +49,7 @@ leads s Restart n = Unread
 leads s Format n = s
 leads s Recover n = cond (n == 0) Ready s
 leads s (CutPoint k) n = s
-leads s (Create name) n = s
-leads s (Remove name) n = s
-leads s (Shorten name len) n = s
-leads s (Rename name new) n = s
+leads s (Change change) n = s
 leads s (Read name offset count) n = s
 
 -- the state after a command that was allowed: answer 1 turns a session off
@@ -84,10 +79,7 @@ module _ {M : Type 0} (model : M → Model) (cut : M → Option ℕ) where
   Does Format x a shown y = (r : Result Unit Refusal) × Formats (model x) r (model y) × (a ≡ answered nothing r) × (shown ≡ [])
   Does Recover x a shown y = (r : Result Bool Refusal) × Recovers (model x) r (model y) × (a ≡ answered put_back r) × (shown ≡ [])
   Does (CutPoint k) x a shown y = (a ≡ Ok None) × (cut y ≡ Some k) × (model y ≡ model x) × (shown ≡ [])
-  Does (Create name) x a shown y = Calls (model x) (create name) a (model y) × (shown ≡ [])
-  Does (Remove name) x a shown y = Calls (model x) (remove name) a (model y) × (shown ≡ [])
-  Does (Shorten name len) x a shown y = Calls (model x) (shorten name len) a (model y) × (shown ≡ [])
-  Does (Rename name new) x a shown y = Calls (model x) (rename name new) a (model y) × (shown ≡ [])
+  Does (Change change) x a shown y = Calls (model x) (asks change) a (model y) × (shown ≡ [])
   Does (Read name offset count) x a shown y = Reads (model x) name offset count a shown (model y)
 
   -- A command that asks for too much is answered by 11, and then one that is not allowed by 10; neither changes anything.
@@ -99,4 +91,4 @@ module _ {M : Type 0} (model : M → Model) (cut : M → Option ℕ) where
 -- A command and the line that answers it.
 module _ {M : Type 0} (model : M → Model) (cut : M → Option ℕ) where
   abbrev pub Tells : State → Command → M → List ℕ → State → M → Type 0
-  Tells s c x text t y = (a : Said) × (shown : List ℕ) × Steps model cut s c x a shown t y × (text ≡ line (letter c) (number_of a) (carried_of a) shown)
+  Tells s c x text t y = (a : Said) × (shown : List ℕ) × Steps model cut s c x a shown t y × (text ≡ answer_line (letter c) (number_of a) (carried_of a) shown)

@@ -1,8 +1,9 @@
 ghost use Rattle.std.specs.Prelude.{◌≡◌, ◌<◌, ◌≤◌, length, IfSome};
 ghost use Rattle.std.specs.Option.{option_map};
-ghost use Rattle.file_console.specs.Commands.{parsed, letter, asks_too_much, first_bytes, number, cut_points, creates, removes, shortens, renames, reads};
+ghost use Rattle.file_console.specs.Commands.{parsed, letter, asks_too_much, first_bytes, number, cut_points, shortens, renames, reads};
 
 use layout::name::Name;
+use store::change::Change;
 
 // the bytes that a read gives at most
 pub const SHOWN: usize = 32;
@@ -21,14 +22,8 @@ pub enum Command {
     Recover,
     // lose power after so many further loads, stores and barriers
     CutPoint(u16),
-    // make an empty file
-    Create(Name),
-    // take a file out
-    Remove(Name),
-    // keep the first bytes of a file
-    Shorten { name: Name, length: u32 },
-    // give a file another name
-    Rename { name: Name, new: Name },
+    // make a file call that changes a slot of the directory
+    Change(Change),
     // show bytes of a file, from an offset on
     Read { name: Name, offset: u32, count: u8 },
 }
@@ -43,10 +38,10 @@ impl Command {
             Command::Format => b'F',
             Command::Recover => b'R',
             Command::CutPoint(_) => b'K',
-            Command::Create(_) => b'C',
-            Command::Remove(_) => b'D',
-            Command::Shorten { .. } => b'S',
-            Command::Rename { .. } => b'N',
+            Command::Change(Change::Create(_)) => b'C',
+            Command::Change(Change::Remove(_)) => b'D',
+            Command::Change(Change::Shorten { .. }) => b'S',
+            Command::Change(Change::Rename { .. }) => b'N',
             Command::Read { .. } => b'G',
         }
     }
@@ -89,24 +84,6 @@ fn parse_cut_point(input: &[u8]) -> Option<(Command, &[u8])>
     Some((Command::CutPoint(u16::from_le_bytes(*bytes)), rest))
 }
 
-// A create: the name.
-fn parse_create(input: &[u8]) -> Option<(Command, &[u8])>
-    ensures value { option_map (λ x. (x.0, x.1.now)) result ≡ creates input.now }
-    ensures shorter { IfSome result (λ x. length x.1.now ≤ length input.now) }
-{
-    let (name, rest) = take_name(input)?;
-    Some((Command::Create(name), rest))
-}
-
-// A remove: the name.
-fn parse_remove(input: &[u8]) -> Option<(Command, &[u8])>
-    ensures value { option_map (λ x. (x.0, x.1.now)) result ≡ removes input.now }
-    ensures shorter { IfSome result (λ x. length x.1.now ≤ length input.now) }
-{
-    let (name, rest) = take_name(input)?;
-    Some((Command::Remove(name), rest))
-}
-
 // A shorten: the name and the length.
 fn parse_shorten(input: &[u8]) -> Option<(Command, &[u8])>
     ensures value { option_map (λ x. (x.0, x.1.now)) result ≡ shortens input.now }
@@ -114,7 +91,7 @@ fn parse_shorten(input: &[u8]) -> Option<(Command, &[u8])>
 {
     let (name, rest) = take_name(input)?;
     let (length, rest) = take_number(rest)?;
-    Some((Command::Shorten { name, length }, rest))
+    Some((Command::Change(Change::Shorten { name, length }), rest))
 }
 
 // A rename: the name and the new one.
@@ -124,7 +101,7 @@ fn parse_rename(input: &[u8]) -> Option<(Command, &[u8])>
 {
     let (name, rest) = take_name(input)?;
     let (new, rest) = take_name(rest)?;
-    Some((Command::Rename { name, new }, rest))
+    Some((Command::Change(Change::Rename { name, new }), rest))
 }
 
 // A read: the name, the offset and the count.
@@ -154,8 +131,8 @@ pub fn parse(input: &[u8]) -> Option<(Command, &[u8])>
         b'F' => Some((Command::Format, rest)),
         b'R' => Some((Command::Recover, rest)),
         b'K' => parse_cut_point(rest),
-        b'C' => parse_create(rest),
-        b'D' => parse_remove(rest),
+        b'C' => take_name(rest).map(|(name, rest)| (Command::Change(Change::Create(name)), rest)),
+        b'D' => take_name(rest).map(|(name, rest)| (Command::Change(Change::Remove(name)), rest)),
         b'S' => parse_shorten(rest),
         b'N' => parse_rename(rest),
         b'G' => parse_read(rest),

@@ -3,5 +3,4 @@
 
 pub mod answer;
 pub mod command;
-pub mod line;
 pub mod state;

@@ -1,23 +1,20 @@
-ghost use Rattle.std.specs.Prelude.{◌≡◌, ◌≤◌, false, length};
-ghost use Rattle.console.specs.Denials.{number_of};
-ghost use Rattle.file_console.specs.Answers.{MayShow, carried_of};
+ghost use Rattle.std.specs.Prelude.{◌≡◌, ◌≤◌, false};
+ghost use Rattle.file_console.specs.Answers.{carried_of};
 ghost use Rattle.file_console.specs.Outcomes.{count_of, said, shown_of};
 ghost use Rattle.file_console.specs.Commands.{asks_too_much, parsed};
 ghost use Rattle.file_console.specs.Session.{Does, Reads, Steps, Tells, allows, next};
 
-use crate::answer::carried;
+use crate::answer::{Done, carried};
 use crate::command::{Command, Given, SHOWN, parse};
-use crate::line::write_line;
-use console::denial::Denial;
+use console::denial::{Denial, number};
+use console::line::write_answer;
 use console::session::Session;
 use image_check::refusal::Refusal;
 use layout::name::Name;
 use memory::cut_point::CutPoint;
 use store::format::format;
-use store::names::{create, remove, rename};
 use store::read::read;
 use store::recover::recover;
-use store::shorten::shorten;
 
 // What a session allows: nothing but a restart, what an unread store allows, or what a recovered one does.
 #[derive(Clone, Copy, PartialEq, Eq, Debug)]
@@ -30,12 +27,53 @@ pub enum State {
     Ready,
 }
 
-// What a command gives that was done: the value that it carries, and how many bytes of the buffer it shows. A slice in place of the
-// count would end what is known of the buffer.
-#[derive(Clone, Copy, PartialEq, Eq, Debug)]
-pub struct Done {
-    pub carried: Option<u16>,
-    pub shown: usize,
+// Reads bytes of a file into the buffer; those that the file gave are shown.
+fn show_file<M: CutPoint>(
+    memory: &mut M,
+    name: Name,
+    offset: u32,
+    count: u8,
+    buffer: &mut Given,
+) -> Result<Done, Denial>
+    requires { count ≤ 32 }
+    ensures reads { Reads (M.Memory.model memory.old) name offset count (said result) (shown_of result buffer.new) (M.Memory.model memory.new) }
+    ensures lent { M.Memory.lent memory.new ≡ M.Memory.lent memory.old }
+{
+    let given = read(memory, name, offset, &mut buffer[..usize::from(count)])?;
+    Ok(Done {
+        carried: Some(given as u16),
+        shown: given,
+    })
+}
+
+// Carries out a command that is allowed.
+fn carry_out<M: CutPoint>(
+    memory: &mut M,
+    command: Command,
+    buffer: &mut Given,
+) -> Result<Done, Denial>
+    requires { asks_too_much command ≡ false }
+    ensures does { Does M.Memory.model M.CutPoint.cut command memory.old (said result) (shown_of result buffer.new) memory.new }
+    ensures lent { M.Memory.lent memory.new ≡ M.Memory.lent memory.old }
+{
+    let mut carried = None;
+    match command {
+        Command::Restart => {
+            if !memory.restart() {
+                return Err(Denial::Refused(Refusal::PowerLost));
+            }
+        }
+        Command::Format => format(memory)?,
+        Command::Recover => carried = Some(u16::from(recover(memory)?)),
+        Command::CutPoint(operations) => memory.cut_after(Some(u64::from(operations))),
+        Command::Change(change) => change.apply(memory)?,
+        Command::Read {
+            name,
+            offset,
+            count,
+        } => return show_file(memory, name, offset, count, buffer),
+    }
+    Ok(Done { carried, shown: 0 })
 }
 
 impl State {
@@ -43,23 +81,12 @@ impl State {
     fn allows(self, command: Command) -> bool
         ensures { result ≡ allows self command }
     {
-        matches!(
-            (self, command),
-            (_, Command::Restart)
-                | (
-                    State::Unread,
-                    Command::Format | Command::Recover | Command::CutPoint(_)
-                )
-                | (
-                    State::Ready,
-                    Command::CutPoint(_)
-                        | Command::Create(_)
-                        | Command::Remove(_)
-                        | Command::Shorten { .. }
-                        | Command::Rename { .. }
-                        | Command::Read { .. }
-                )
-        )
+        match command {
+            Command::Restart => true,
+            Command::Format | Command::Recover => self == State::Unread,
+            Command::CutPoint(_) => self != State::Off,
+            Command::Change(_) | Command::Read { .. } => self == State::Ready,
+        }
     }
 
     // The state after a command that was allowed and then answered.
@@ -82,7 +109,6 @@ impl State {
         buffer: &mut Given,
     ) -> Result<Done, Denial>
         ensures steps { Steps M.Memory.model M.CutPoint.cut self.old command memory.old (said result) (shown_of result buffer.new) self.new memory.new }
-        ensures few { MayShow (number_of (said result)) (carried_of (said result)) (count_of result) }
         ensures lent { M.Memory.lent memory.new ≡ M.Memory.lent memory.old }
     {
         if command.asks_too_much() {
@@ -94,6 +120,17 @@ impl State {
         let done = carry_out(memory, command, buffer);
         *self = self.next(command, &done);
         done
+    }
+}
+
+// The value that an answer carries, and how many bytes of the buffer it shows.
+fn told(answer: &Result<Done, Denial>) -> (Option<u16>, usize)
+    ensures carried { result.0 ≡ carried_of (said answer.now) }
+    ensures shown { result.1 ≡ count_of answer.now }
+{
+    match answer {
+        Ok(done) => (done.carried, done.shown),
+        Err(denial) => (carried(*denial), 0),
     }
 }
 
@@ -110,74 +147,14 @@ impl<M: CutPoint> Session<M> for State {
 
     fn answer(&mut self, memory: &mut M, command: Command, out: &mut [u8]) -> Option<usize> {
         let mut buffer = [0u8; SHOWN];
-        match self.step(memory, command, &mut buffer) {
-            Ok(done) => {
-                let shown = &buffer[..done.shown];
-                write_line(out, command.letter(), 0, done.carried, shown)
-            }
-            Err(denial) => {
-                write_line(
-                    out,
-                    command.letter(),
-                    u8::from(denial),
-                    carried(denial),
-                    &[],
-                )
-            }
-        }
+        let answer = self.step(memory, command, &mut buffer);
+        let (carried, shown) = told(&answer);
+        write_answer(
+            out,
+            command.letter(),
+            number(&answer),
+            carried,
+            &buffer[..shown],
+        )
     }
-}
-
-// Reads bytes of a file into the buffer; those that the file gave are shown.
-fn show_file<M: CutPoint>(
-    memory: &mut M,
-    name: Name,
-    offset: u32,
-    count: u8,
-    buffer: &mut Given,
-) -> Result<Done, Denial>
-    requires { count ≤ 32 }
-    ensures reads { Reads (M.Memory.model memory.old) name offset count (said result) (shown_of result buffer.new) (M.Memory.model memory.new) }
-    ensures few { MayShow (number_of (said result)) (carried_of (said result)) (count_of result) }
-    ensures lent { M.Memory.lent memory.new ≡ M.Memory.lent memory.old }
-{
-    let given = read(memory, name, offset, &mut buffer[..usize::from(count)])?;
-    Ok(Done {
-        carried: Some(given as u16),
-        shown: given,
-    })
-}
-
-// Carries out a command that is allowed.
-fn carry_out<M: CutPoint>(
-    memory: &mut M,
-    command: Command,
-    buffer: &mut Given,
-) -> Result<Done, Denial>
-    requires { asks_too_much command ≡ false }
-    ensures does { Does M.Memory.model M.CutPoint.cut command memory.old (said result) (shown_of result buffer.new) memory.new }
-    ensures few { MayShow (number_of (said result)) (carried_of (said result)) (count_of result) }
-    ensures lent { M.Memory.lent memory.new ≡ M.Memory.lent memory.old }
-{
-    let mut carried = None;
-    match command {
-        Command::Restart => {
-            if !memory.restart() {
-                return Err(Denial::Refused(Refusal::PowerLost));
-            }
-        }
-        Command::Format => format(memory)?,
-        Command::Recover => carried = Some(u16::from(recover(memory)?)),
-        Command::CutPoint(operations) => memory.cut_after(Some(u64::from(operations))),
-        Command::Create(name) => create(memory, name)?,
-        Command::Remove(name) => remove(memory, name)?,
-        Command::Shorten { name, length } => shorten(memory, name, length)?,
-        Command::Rename { name, new } => rename(memory, name, new)?,
-        Command::Read {
-            name,
-            offset,
-            count,
-        } => return show_file(memory, name, offset, count, buffer),
-    }
-    Ok(Done { carried, shown: 0 })
 }

@@ -1,4 +1,4 @@
-use crate::bench::{A, B, C, Call, File, has_only, make, make_store, store_words};
+use crate::bench::{A, C, EMPTIED, File, SHORT, has_only, make_store, store_words, takes_up_to};
 use image_check::refusal::Refusal;
 use layers::cache::Cache;
 use media::byte_image::ByteImage;
@@ -8,6 +8,7 @@ use memory::memory::Memory;
 use std::alloc::Global;
 use std::process::Abort;
 use std::test::Fail;
+use store::change::Change;
 use store::recover::recover;
 
 // Eight blocks with two files, `A` of twelve bytes and `B` of three. Slot 2 is empty, and its root word is that of `B`.
@@ -29,14 +30,7 @@ const IMAGE: [(u64, u64); 13] = [
 
 const LONG: File = File {
     name: A,
-    length: 12,
-    bytes: *b"HELLO, WORLD\0\0\0\0",
-};
-
-const SHORT: File = File {
-    name: B,
-    length: 3,
-    bytes: *b"HI!\0\0\0\0\0\0\0\0\0\0\0\0\0",
+    bytes: b"HELLO, WORLD",
 };
 
 // `A` under another name, and `A` cut to five bytes.
@@ -44,51 +38,44 @@ const RENAMED: File = File { name: C, ..LONG };
 
 const CUT: File = File {
     name: A,
-    length: 5,
-    bytes: *b"HELLO\0\0\0\0\0\0\0\0\0\0\0",
+    bytes: b"HELLO",
 };
 
-// `A` cut to nothing, and the new file.
-const EMPTIED: File = File {
-    name: A,
-    length: 0,
-    bytes: [0; 16],
-};
-
+// The new file.
 const CREATED: File = File { name: C, ..EMPTIED };
 
 // The files before each call.
 const BEFORE: [File; 2] = [LONG, SHORT];
 
-// A call and the files after it.
+// A change and the files after it.
 #[derive(Clone, Copy)]
 struct Case {
-    call: Call,
+    change: Change,
     after: &'static [File],
 }
 
 const CREATE: Case = Case {
-    call: Call::Create(C),
+    change: Change::Create(C),
     after: &[LONG, SHORT, CREATED],
 };
 
 const RENAME: Case = Case {
-    call: Call::Rename(A, C),
+    change: Change::Rename { name: A, new: C },
     after: &[RENAMED, SHORT],
 };
 
 const REMOVE: Case = Case {
-    call: Call::Remove(A),
+    change: Change::Remove(A),
     after: &[SHORT],
 };
 
 const SHORTEN: Case = Case {
-    call: Call::Shorten(A, 5),
+    change: Change::Shorten { name: A, length: 5 },
     after: &[CUT, SHORT],
 };
 
 const EMPTY: Case = Case {
-    call: Call::Shorten(A, 0),
+    change: Change::Shorten { name: A, length: 0 },
     after: &[EMPTIED, SHORT],
 };
 
@@ -106,7 +93,7 @@ fn is_done_before_cut<M: CutPoint>(
     store_words(memory, &IMAGE)?;
     memory.barrier()?;
     memory.cut_after(Some(cut));
-    let answer = make(memory, case.call);
+    let answer = case.change.apply(memory);
     assert!(rt; answer == Ok(()) || answer == Err(Refusal::PowerLost));
     assert!(rt; memory.restart());
     assert_eq!(rt; recover(memory), Ok(false));
@@ -128,18 +115,12 @@ fn is_whole_after_any_cut<M: CutPoint>(
 ) -> Result<(), Fail> {
     make_store(rt, memory);
     assert_eq!(rt; recover(memory), Ok(false));
-    assert!(rt;
-        !is_done_before_cut(rt, memory, case, given, 0)?,
-        "given {given}"
-    );
-    assert!(rt; has_only(memory, &BEFORE)?, "given {given}");
-    for cut in 1..MANY {
-        let _ = is_done_before_cut(rt, memory, case, given, cut)?;
-    }
-    assert!(rt;
-        is_done_before_cut(rt, memory, case, given, MANY)?,
-        "given {given}"
-    );
+    let ends = takes_up_to(MANY, |cut| {
+        let done = is_done_before_cut(rt, memory, case, given, cut)?;
+        assert!(rt; cut > 0 || has_only(memory, &BEFORE)?, "given {given}");
+        Ok(done)
+    })?;
+    assert!(rt; ends, "given {given}");
     Ok(())
 }
 

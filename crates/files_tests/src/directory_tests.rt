@@ -1,16 +1,18 @@
 use crate::bench::{
-    A, B, C, Call, File, count_files, empty, has_file, has_only, image_in, make, make_store,
-    store_words,
+    A, B, C, Call, SHORT, count_files, empty, has_file, has_only, image_in, make, make_store,
+    one_file, store_words,
 };
 use image_check::refusal::Refusal;
+use layout::name::Name;
 use media::byte_image::ByteImage;
 use memory::memory::Memory;
 use std::process::Abort;
 use std::test::Fail;
+use store::change::Change;
 use store::names::{create, remove, rename};
 
 // The name of one letter.
-fn one_letter(letter: u8) -> [u8; 8] {
+fn one_letter(letter: u8) -> Name {
     [letter, 0, 0, 0, 0, 0, 0, 0]
 }
 
@@ -84,9 +86,9 @@ fn a_removed_file_is_gone(rt: HostRuntime) -> Result<(), Fail> {
     create_all(&rt, &mut memory, b"AB");
     assert_eq!(rt; remove(&mut memory, A), Ok(()));
     for call in [
-        Call::Remove(A),
-        Call::Rename(A, C),
-        Call::Shorten(A, 0),
+        Call::Change(Change::Remove(A)),
+        Call::Change(Change::Rename { name: A, new: C }),
+        Call::Change(Change::Shorten { name: A, length: 0 }),
         Call::Read(A),
     ] {
         assert_eq!(rt; make(&mut memory, call), Err(Refusal::NoFile));
@@ -96,21 +98,6 @@ fn a_removed_file_is_gone(rt: HostRuntime) -> Result<(), Fail> {
     assert!(rt; has_only(&mut memory, &[empty(A), empty(B)])?);
     Ok(())
 }
-
-// Six blocks with one file, `B`, of three bytes in slot 1: its map is block 3, and its bytes are in block 4.
-const IMAGE: [(u64, u64); 5] = [
-    (0, 6),
-    (66, 0x42),
-    (67, 0x0000_0003_0000_0003),
-    (96, 4),
-    (128, 0x21_4948),
-];
-
-const FILE: File = File {
-    name: B,
-    length: 3,
-    bytes: *b"HI!\0\0\0\0\0\0\0\0\0\0\0\0\0",
-};
 
 #[test]
 fn a_new_file_is_empty_whatever_its_slot_held(rt: HostRuntime) -> Result<(), Fail> {
@@ -123,12 +110,12 @@ fn a_new_file_is_empty_whatever_its_slot_held(rt: HostRuntime) -> Result<(), Fai
     ] {
         let mut bytes = [0; 1536];
         let mut memory = image_in(&rt, &mut bytes);
-        store_words(&mut memory, &IMAGE)?;
+        store_words(&mut memory, &one_file(1, B))?;
         memory.store(65, old)?;
         assert_eq!(rt; create(&mut memory, A), Ok(()));
         assert_eq!(rt; memory.load(64), Ok(0x41));
         assert_eq!(rt; memory.load(65), Ok(0));
-        assert!(rt; has_only(&mut memory, &[empty(A), FILE])?);
+        assert!(rt; has_only(&mut memory, &[empty(A), SHORT])?);
     }
     Ok(())
 }
@@ -137,7 +124,7 @@ fn a_new_file_is_empty_whatever_its_slot_held(rt: HostRuntime) -> Result<(), Fai
 fn a_removed_file_leaves_no_bytes_to_the_next(rt: HostRuntime) -> Result<(), Fail> {
     let mut bytes = [0; 1536];
     let mut memory = image_in(&rt, &mut bytes);
-    store_words(&mut memory, &IMAGE)?;
+    store_words(&mut memory, &one_file(1, B))?;
     for slot in [0, 2, 3] {
         memory.store(65 + 2 * slot, 0x0000_0003_0000_0003)?;
     }

@@ -1,13 +1,15 @@
-use crate::bench::{Call, count_files, empty, has_file, make, make_store};
+use crate::bench::{A, B, Call, count_files, empty, has_file, make, make_store};
 use image_check::refusal::Refusal;
+use layout::name::Name;
 use media::byte_image::ByteImage;
 use memory::memory::Memory;
 use std::process::Abort;
 use std::test::Fail;
+use store::change::Change;
 use store::names::{create, remove};
 
 // Names of one to eight letters, and the words that hold them.
-const LENGTHS: [([u8; 8], u64); 8] = [
+const LENGTHS: [(Name, u64); 8] = [
     (*b"Z\0\0\0\0\0\0\0", 0x5a),
     (*b"Z-\0\0\0\0\0\0", 0x2d5a),
     (*b"Z-0\0\0\0\0\0", 0x30_2d5a),
@@ -49,18 +51,18 @@ fn is_letter(byte: u8) -> bool {
 }
 
 // Whether a name has so many letters and then only zeros.
-fn has_length(name: [u8; 8], length: usize) -> bool {
+fn has_length(name: Name, length: usize) -> bool {
     let letters = name.iter().take(length).all(|byte| is_letter(*byte));
     letters && name.iter().skip(length).all(|byte| *byte == 0)
 }
 
 // Whether it is a name of one to eight letters.
-fn is_name(name: [u8; 8]) -> bool {
+fn is_name(name: Name) -> bool {
     (1..9).any(|length| has_length(name, length))
 }
 
 // Puts each byte at each place of a name, and checks whether there can be a file of that name.
-fn tries_every_byte(rt: &impl Abort, name: [u8; 8]) -> Result<(), Fail> {
+fn tries_every_byte(rt: &impl Abort, name: Name) -> Result<(), Fail> {
     let mut bytes = [0xa5; 1536];
     let mut memory = ByteImage::new(&mut bytes);
     make_store(rt, &mut memory);
@@ -124,7 +126,7 @@ fn a_bad_name_is_refused_by_every_call(rt: HostRuntime) -> Result<(), Fail> {
     let mut bytes = [0xa5; 1536];
     let mut memory = ByteImage::new(&mut bytes);
     make_store(&rt, &mut memory);
-    assert_eq!(rt; create(&mut memory, *b"A\0\0\0\0\0\0\0"), Ok(()));
+    assert_eq!(rt; create(&mut memory, A), Ok(()));
     for bad in [
         [0; 8],
         *b"\0A\0\0\0\0\0\0",
@@ -135,11 +137,14 @@ fn a_bad_name_is_refused_by_every_call(rt: HostRuntime) -> Result<(), Fail> {
         [0xff; 8],
     ] {
         for call in [
-            Call::Create(bad),
-            Call::Rename(*b"A\0\0\0\0\0\0\0", bad),
-            Call::Rename(bad, *b"B\0\0\0\0\0\0\0"),
-            Call::Remove(bad),
-            Call::Shorten(bad, 0),
+            Call::Change(Change::Create(bad)),
+            Call::Change(Change::Rename { name: A, new: bad }),
+            Call::Change(Change::Rename { name: bad, new: B }),
+            Call::Change(Change::Remove(bad)),
+            Call::Change(Change::Shorten {
+                name: bad,
+                length: 0,
+            }),
             Call::Read(bad),
         ] {
             assert_eq!(rt; make(&mut memory, call), Err(Refusal::BadName));

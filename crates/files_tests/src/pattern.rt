@@ -1,5 +1,4 @@
 use crate::bench::{B, store_words};
-use image_check::refusal::Refusal;
 use memory::fault::Fault;
 use memory::memory::Memory;
 use std::array;
@@ -41,30 +40,35 @@ pub(crate) fn fill<M: Memory>(memory: &mut M) -> Result<(), Fault> {
 // What a buffer held before a read.
 pub(crate) const OLD: u8 = 0xa5;
 
-// Checks a buffer whose first bytes, `size` of them, were lent to a read of `B` from an offset on that gave `given` bytes.
-pub(crate) fn check_bytes(rt: &impl Abort, buffer: &[u8], offset: u32, size: usize, given: usize) {
+// Checks a buffer that a read of `B` from an offset on filled: the bytes that were given, and zeros after them.
+pub(crate) fn check_bytes(rt: &impl Abort, buffer: &[u8], offset: u32, given: usize) {
     for (k, byte) in buffer.iter().enumerate() {
-        let expected = if k >= size {
-            OLD
-        } else if k >= given {
-            0
-        } else {
+        let expected = if k < given {
             pattern(u64::from(offset) + k as u64)
+        } else {
+            0
         };
         assert_eq!(rt; *byte, expected, "byte {k} from {offset} on");
     }
 }
 
-// Reads `B` from an offset on into the first bytes of a buffer.
-pub(crate) fn read_first<M: Memory>(
+// Reads `B` from an offset on into a buffer of that size, and checks how many bytes are given, what they are, and that those behind the buffer stay.
+pub(crate) fn check_given<M: Memory>(
     rt: &impl Abort,
     memory: &mut M,
     offset: u32,
-    buffer: &mut [u8],
     size: usize,
-) -> Result<usize, Refusal> {
-    assert!(rt; size <= buffer.len());
-    read(memory, B, offset, &mut buffer[..size])
+    given: usize,
+) {
+    let mut bytes = [OLD; 324];
+    assert!(rt; size <= bytes.len());
+    let buffer = &mut bytes[..size];
+    let answer = read(memory, B, offset, buffer);
+    assert_eq!(rt; answer, Ok(given), "{size} from {offset} on");
+    check_bytes(rt, buffer, offset, given);
+    for (k, byte) in bytes.iter().enumerate().skip(size) {
+        assert_eq!(rt; *byte, OLD, "byte {k} from {offset} on");
+    }
 }
 
 // Reads `B` from an offset on, where it has that length, and checks what is given.
@@ -75,11 +79,6 @@ pub(crate) fn check_read<M: Memory>(
     offset: u32,
     size: usize,
 ) {
-    let mut buffer = [OLD; 324];
     let given = size.min(length.saturating_sub(offset) as usize);
-    assert_eq!(rt;
-        read_first(rt, memory, offset, &mut buffer, size),
-        Ok(given)
-    );
-    check_bytes(rt, &buffer, offset, size, given);
+    check_given(rt, memory, offset, size, given);
 }

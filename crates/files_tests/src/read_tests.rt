@@ -1,8 +1,10 @@
-use crate::bench::{A, B, C, image_in, store_words};
-use crate::pattern::{OLD, check_bytes, check_read, fill, read_first};
+use crate::bench::{A, B, C, image_in, store_words, takes_up_to};
+use crate::pattern::{OLD, check_bytes, check_given, check_read, fill};
 use image_check::refusal::{Refusal, Rule};
+use layout::name::Name;
 use memory::cut_point::CutPoint;
 use memory::memory::Memory;
+use std::ops::Range;
 use std::process::Abort;
 use std::test::Fail;
 use store::read::read;
@@ -37,17 +39,14 @@ fn a_read_gives_what_the_file_has(rt: HostRuntime) -> Result<(), Fail> {
     let mut memory = image_in(&rt, &mut bytes);
     fill(&mut memory)?;
     for (offset, size, given) in GIVEN {
-        let mut buffer = [OLD; 324];
-        let answer = read_first(&rt, &mut memory, offset, &mut buffer, size);
-        assert_eq!(rt; answer, Ok(given), "{size} from {offset} on");
-        check_bytes(&rt, &buffer, offset, size, given);
+        check_given(&rt, &mut memory, offset, size, given);
     }
     Ok(())
 }
 
 // Reads at each of these offsets into buffers of some sizes.
-fn reads_from<M: Memory>(rt: &impl Abort, memory: &mut M, first: u32, end: u32) {
-    for offset in first..end {
+fn reads_from<M: Memory>(rt: &impl Abort, memory: &mut M, offsets: Range<u32>) {
+    for offset in offsets {
         for size in [0, 1, 2, 7, 8, 9, 16, 33, 64, 320] {
             check_read(rt, memory, 300, offset, size);
         }
@@ -61,10 +60,10 @@ fn bytes_are_read_across_the_edge_of_blocks_and_at_the_end(rt: HostRuntime) -> R
     fill(&mut memory)?;
     let before = bytes;
     let mut memory = image_in(&rt, &mut bytes);
-    reads_from(&rt, &mut memory, 0, 10);
-    reads_from(&rt, &mut memory, 238, 275);
-    reads_from(&rt, &mut memory, 282, 318);
-    reads_from(&rt, &mut memory, 508, 516);
+    reads_from(&rt, &mut memory, 0..10);
+    reads_from(&rt, &mut memory, 238..275);
+    reads_from(&rt, &mut memory, 282..318);
+    reads_from(&rt, &mut memory, 508..516);
     assert_eq!(rt; bytes, before);
     Ok(())
 }
@@ -87,7 +86,7 @@ fn an_empty_file_gives_nothing(rt: HostRuntime) -> Result<(), Fail> {
 struct Refused {
     changes: &'static [(u64, u64)],
     up: bool,
-    name: [u8; 8],
+    name: Name,
     refusal: Refusal,
 }
 
@@ -177,7 +176,7 @@ fn ends_before_cut<M: CutPoint>(rt: &impl Abort, memory: &mut M, cut: u64) -> bo
     let mut buffer = [OLD; 40];
     let answer = read(memory, B, 240, &mut buffer);
     if answer == Ok(40) {
-        check_bytes(rt, &buffer, 240, 40, 40);
+        check_bytes(rt, &buffer, 240, 40);
         return true;
     }
     assert_eq!(rt; answer, Err(Refusal::PowerLost));
@@ -190,11 +189,12 @@ fn a_read_that_is_cut_off_leaves_zeros(rt: HostRuntime) -> Result<(), Fail> {
     let mut bytes = [0; 1536];
     let mut memory = image_in(&rt, &mut bytes);
     fill(&mut memory)?;
-    assert!(rt; !ends_before_cut(&rt, &mut memory, 0));
-    for cut in 1..MANY {
+    let ends = takes_up_to(MANY, |cut| {
+        let done = ends_before_cut(&rt, &mut memory, cut);
         // the bytes alone take a load each
-        assert!(rt; !ends_before_cut(&rt, &mut memory, cut) || cut >= 40);
-    }
-    assert!(rt; ends_before_cut(&rt, &mut memory, MANY));
+        assert!(rt; !done || cut >= 40);
+        Ok(done)
+    })?;
+    assert!(rt; ends);
     Ok(())
 }

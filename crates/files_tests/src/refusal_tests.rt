@@ -1,20 +1,20 @@
-use crate::bench::{A, B, C, Call, image_in, make, store_words};
+use crate::bench::{A, B, C, Call, image_in, make, one_file, store_words};
 use image_check::image::check_image;
 use image_check::refusal::{Refusal, Rule};
+use layout::name::Name;
 use media::byte_image::ByteImage;
+use memory::fault::Fault;
 use memory::memory::Memory;
 use std::process::Abort;
 use std::test::Fail;
+use store::change::Change;
 
-// Six blocks with two files: `A` of three bytes, with its map in block 3 and its bytes in block 4, and `B`, which is empty.
-const IMAGE: [(u64, u64); 6] = [
-    (0, 6),
-    (64, 0x41),
-    (65, 0x0000_0003_0000_0003),
-    (66, 0x42),
-    (96, 4),
-    (128, 0x21_4948),
-];
+// Makes an image of six blocks with two files, `A` of three bytes and `B`, which is empty, and changes these words of it.
+fn fill<M: Memory>(memory: &mut M, changes: &[(u64, u64)]) -> Result<(), Fault> {
+    store_words(memory, &one_file(0, A))?;
+    memory.store(66, 0x42)?;
+    store_words(memory, changes)
+}
 
 // What a call finds: words that differ from the image, the bytes of the memory, and whether there is power.
 #[derive(Clone, Copy)]
@@ -95,11 +95,10 @@ const FULL: Found = Found {
     ..SOUND
 };
 
-// What a call answers of the first bytes.
-fn answer(rt: &impl Abort, bytes: &mut [u8], found: Found, call: Call) -> Result<(), Refusal> {
-    assert!(rt; found.size <= bytes.len());
-    let mut memory = ByteImage::new(&mut bytes[..found.size]);
-    if found.up {
+// What a call answers of these bytes.
+fn answer(rt: &impl Abort, bytes: &mut [u8], up: bool, call: Call) -> Result<(), Refusal> {
+    let mut memory = ByteImage::new(bytes);
+    if up {
         assert!(rt; memory.restart());
     }
     make(&mut memory, call)
@@ -109,31 +108,49 @@ fn answer(rt: &impl Abort, bytes: &mut [u8], found: Found, call: Call) -> Result
 fn refuses(rt: &impl Abort, found: Found, call: Call, refusal: Refusal) -> Result<(), Fail> {
     let mut bytes = [0; 1544];
     let mut memory = image_in(rt, &mut bytes);
-    store_words(&mut memory, &IMAGE)?;
-    store_words(&mut memory, found.changes)?;
+    fill(&mut memory, found.changes)?;
     let before = bytes;
-    assert_eq!(rt; answer(rt, &mut bytes, found, call), Err(refusal));
+    assert!(rt; found.size <= bytes.len());
+    assert_eq!(rt;
+        answer(rt, &mut bytes[..found.size], found.up, call),
+        Err(refusal)
+    );
     assert_eq!(rt; bytes, before);
     Ok(())
 }
 
-const LOWER: [u8; 8] = *b"a\0\0\0\0\0\0\0";
+const LOWER: Name = *b"a\0\0\0\0\0\0\0";
 
-const GAP: [u8; 8] = *b"A\0B\0\0\0\0\0";
+const GAP: Name = *b"A\0B\0\0\0\0\0";
 
-const NOTHING: [u8; 8] = [0; 8];
+const NOTHING: Name = [0; 8];
 
 // Calls with a bad name; a rename has one where either is bad.
 const BAD_NAMES: [Call; 10] = [
-    Call::Create(LOWER),
-    Call::Create(NOTHING),
-    Call::Rename(LOWER, C),
-    Call::Rename(A, GAP),
-    Call::Rename(C, NOTHING),
-    Call::Rename(GAP, LOWER),
-    Call::Remove(NOTHING),
-    Call::Shorten(GAP, 0),
-    Call::Shorten(LOWER, 4),
+    Call::Change(Change::Create(LOWER)),
+    Call::Change(Change::Create(NOTHING)),
+    Call::Change(Change::Rename {
+        name: LOWER,
+        new: C,
+    }),
+    Call::Change(Change::Rename { name: A, new: GAP }),
+    Call::Change(Change::Rename {
+        name: C,
+        new: NOTHING,
+    }),
+    Call::Change(Change::Rename {
+        name: GAP,
+        new: LOWER,
+    }),
+    Call::Change(Change::Remove(NOTHING)),
+    Call::Change(Change::Shorten {
+        name: GAP,
+        length: 0,
+    }),
+    Call::Change(Change::Shorten {
+        name: LOWER,
+        length: 4,
+    }),
     Call::Read(LOWER),
 ];
 
@@ -160,16 +177,16 @@ fn a_bad_name_comes_first(rt: HostRuntime) -> Result<(), Fail> {
 
 // Calls with good names: each is done in the sound image, or refused there by what the file table holds.
 const CALLS: [Call; 12] = [
-    Call::Create(C),
-    Call::Create(A),
-    Call::Rename(A, C),
-    Call::Rename(A, B),
-    Call::Rename(C, B),
-    Call::Remove(A),
-    Call::Remove(C),
-    Call::Shorten(A, 1),
-    Call::Shorten(A, 4),
-    Call::Shorten(C, 4),
+    Call::Change(Change::Create(C)),
+    Call::Change(Change::Create(A)),
+    Call::Change(Change::Rename { name: A, new: C }),
+    Call::Change(Change::Rename { name: A, new: B }),
+    Call::Change(Change::Rename { name: C, new: B }),
+    Call::Change(Change::Remove(A)),
+    Call::Change(Change::Remove(C)),
+    Call::Change(Change::Shorten { name: A, length: 1 }),
+    Call::Change(Change::Shorten { name: A, length: 4 }),
+    Call::Change(Change::Shorten { name: C, length: 4 }),
     Call::Read(A),
     Call::Read(C),
 ];
@@ -225,8 +242,7 @@ fn a_broken_rule_comes_before_the_files(rt: HostRuntime) -> Result<(), Fail> {
 fn is_sound(rt: &impl Abort, found: Found) -> Result<bool, Fail> {
     let mut bytes = [0; 1536];
     let mut memory = image_in(rt, &mut bytes);
-    store_words(&mut memory, &IMAGE)?;
-    store_words(&mut memory, found.changes)?;
+    fill(&mut memory, found.changes)?;
     Ok(check_image(&mut memory).is_ok())
 }
 
@@ -250,21 +266,60 @@ fn a_log_that_is_not_free_breaks_rule_6(rt: HostRuntime) -> Result<(), Fail> {
 fn the_files_are_looked_at_last(rt: HostRuntime) -> Result<(), Fail> {
     let cases = [
         // a missing file, before a taken new name and before a length
-        (SOUND, Call::Rename(C, A), Refusal::NoFile),
-        (SOUND, Call::Rename(C, C), Refusal::NoFile),
-        (SOUND, Call::Shorten(C, 4), Refusal::NoFile),
-        (SOUND, Call::Shorten(C, u32::MAX), Refusal::NoFile),
-        (SOUND, Call::Remove(C), Refusal::NoFile),
+        (
+            SOUND,
+            Call::Change(Change::Rename { name: C, new: A }),
+            Refusal::NoFile,
+        ),
+        (
+            SOUND,
+            Call::Change(Change::Rename { name: C, new: C }),
+            Refusal::NoFile,
+        ),
+        (
+            SOUND,
+            Call::Change(Change::Shorten { name: C, length: 4 }),
+            Refusal::NoFile,
+        ),
+        (
+            SOUND,
+            Call::Change(Change::Shorten {
+                name: C,
+                length: u32::MAX,
+            }),
+            Refusal::NoFile,
+        ),
+        (SOUND, Call::Change(Change::Remove(C)), Refusal::NoFile),
         (SOUND, Call::Read(C), Refusal::NoFile),
         // a taken name, before sixteen files
-        (FULL, Call::Create(A), Refusal::NameTaken),
-        (FULL, Call::Create(*b"Q\0\0\0\0\0\0\0"), Refusal::NameTaken),
-        (FULL, Call::Create(C), Refusal::TooManyFiles),
-        (SOUND, Call::Create(B), Refusal::NameTaken),
-        (SOUND, Call::Rename(A, B), Refusal::NameTaken),
-        (SOUND, Call::Rename(B, B), Refusal::NameTaken),
-        (SOUND, Call::Shorten(A, 4), Refusal::TooLong),
-        (SOUND, Call::Shorten(B, 1), Refusal::TooLong),
+        (FULL, Call::Change(Change::Create(A)), Refusal::NameTaken),
+        (
+            FULL,
+            Call::Change(Change::Create(*b"Q\0\0\0\0\0\0\0")),
+            Refusal::NameTaken,
+        ),
+        (FULL, Call::Change(Change::Create(C)), Refusal::TooManyFiles),
+        (SOUND, Call::Change(Change::Create(B)), Refusal::NameTaken),
+        (
+            SOUND,
+            Call::Change(Change::Rename { name: A, new: B }),
+            Refusal::NameTaken,
+        ),
+        (
+            SOUND,
+            Call::Change(Change::Rename { name: B, new: B }),
+            Refusal::NameTaken,
+        ),
+        (
+            SOUND,
+            Call::Change(Change::Shorten { name: A, length: 4 }),
+            Refusal::TooLong,
+        ),
+        (
+            SOUND,
+            Call::Change(Change::Shorten { name: B, length: 1 }),
+            Refusal::TooLong,
+        ),
     ];
     for (found, call, refusal) in cases {
         refuses(&rt, found, call, refusal)?;

@@ -1,16 +1,17 @@
-use crate::bench::{A, B, C, image_in, store_words};
+use crate::bench::{A, B, C, image_in, one_file, store_words};
 use image_check::refusal::Refusal;
+use layout::name::Name;
 use media::byte_image::ByteImage;
 use memory::memory::Memory;
 use std::process::Abort;
 use std::test::Fail;
 use store::stores::{Ready, Unread};
 
-// Restarts a store and recovers it.
-fn back_again<M: Memory + Drop>(rt: &impl Abort, store: Ready<M>) -> Result<Ready<M>, Fail> {
-    let (store, up) = store.restart();
+// The store after a restart that found power. Each crate of tests has its own, and its own `recovered`: a library may not abort.
+fn with_power<M: Memory + Drop>(rt: &impl Abort, restarted: (Unread<M>, bool)) -> Unread<M> {
+    let (store, up) = restarted;
     assert!(rt; up);
-    recovered(rt, store)
+    store
 }
 
 // Recovers a store in which no call was cut off.
@@ -20,20 +21,16 @@ fn recovered<M: Memory + Drop>(rt: &impl Abort, store: Unread<M>) -> Result<Read
     Ok(store)
 }
 
-// Six blocks with one file, `A`, of three bytes.
-const IMAGE: [(u64, u64); 5] = [
-    (0, 6),
-    (64, 0x41),
-    (65, 0x0000_0003_0000_0003),
-    (96, 4),
-    (128, 0x21_4948),
-];
+// Restarts a store and recovers it.
+fn back_again<M: Memory + Drop>(rt: &impl Abort, store: Ready<M>) -> Result<Ready<M>, Fail> {
+    recovered(rt, with_power(rt, store.restart()))
+}
 
 // Checks what a read of eight bytes answers and gives.
 fn reads<M: Memory>(
     rt: &impl Abort,
     store: &mut Ready<M>,
-    name: [u8; 8],
+    name: Name,
     answer: Result<usize, Refusal>,
     bytes: [u8; 8],
 ) {
@@ -45,8 +42,7 @@ fn reads<M: Memory>(
 #[test]
 fn files_outlast_a_restart(rt: HostRuntime) -> Result<(), Fail> {
     let mut bytes = [0xa5; 1536];
-    let (mut unread, up) = Unread::new(ByteImage::new(&mut bytes)).restart();
-    assert!(rt; up);
+    let mut unread = with_power(&rt, Unread::new(ByteImage::new(&mut bytes)).restart());
     assert_eq!(rt; unread.format(), Ok(()));
     let mut store = recovered(&rt, unread)?;
     assert_eq!(rt; store.create(A), Ok(()));
@@ -68,7 +64,7 @@ fn files_outlast_a_restart(rt: HostRuntime) -> Result<(), Fail> {
 fn bytes_outlast_a_restart(rt: HostRuntime) -> Result<(), Fail> {
     let mut bytes = [0; 1536];
     let mut memory = image_in(&rt, &mut bytes);
-    store_words(&mut memory, &IMAGE)?;
+    store_words(&mut memory, &one_file(0, A))?;
     let mut store = recovered(&rt, Unread::new(memory))?;
     reads(&rt, &mut store, A, Ok(3), *b"HI!\0\0\0\0\0");
     assert_eq!(rt; store.rename(A, C), Ok(()));

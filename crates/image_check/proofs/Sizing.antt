@@ -9,10 +9,7 @@ size-suits words blocks h = go (suits words) h
   where
     go : (b : Bool) → Some blocks ≡ cond b (Some (words / 32)) None → (b ≡ true) × (blocks ≡ words / 32)
     go true e = (refl, cc)
-    go false e = let z : ◌≡◌ {A = ℕ} 0 1 = cc in absurd (apart z)
-      where
-        apart : ◌≡◌ {A = ℕ} 0 1 → ⊥
-        apart z = omega arith
+    go false e = cc
 
 pub size-taken : (m : Model) (words blocks : ℕ) → words ≡ m.count → Some blocks ≡ cond (suits words) (Some (words / 32)) None → (suits m.count ≡ true) × (blocks ≡ m.count / 32)
 size-taken m words blocks e h = size-suits m.count blocks (subst (λ x. Some blocks ≡ cond (suits x) (Some (x / 32)) None) e h)

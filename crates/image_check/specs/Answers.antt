@@ -1,5 +1,6 @@
 -- The numbers of the image rules and of the refusals, and what refusals of the image say.
-use Rattle.std.specs.Prelude.{ℕ}
+use Rattle.std.specs.Prelude.{ℕ, List, ◌++◌, codes}
+use Rattle.std.specs.Fmt.{decimal}
 use Rattle.image_check.specs.declared.refusal.Rule.{Rule}
 use Rattle.image_check.specs.declared.refusal.Rule.TheVariants.{BlockCount, Names, Roots, Maps, Blocks, LogEntry}
 use Rattle.image_check.specs.declared.refusal.Refusal.{Refusal}
@@ -33,3 +34,14 @@ RefusedBy NameTaken lost bad = ⊥
 RefusedBy TooManyFiles lost bad = ⊥
 RefusedBy TooLong lost bad = ⊥
 RefusedBy WrongSize lost bad = ⊥
+
+-- what is written of a refusal
+abbrev pub refusal_text : Refusal → List ℕ
+refusal_text PowerLost = codes "power was lost"
+refusal_text (BadImage rule) = codes "rule " ++ (decimal (rule_number rule) ++ codes " of the image fails")
+refusal_text BadName = codes "a name is not well formed"
+refusal_text NoFile = codes "no file has the name"
+refusal_text NameTaken = codes "a file has the new name"
+refusal_text TooManyFiles = codes "sixteen files exist"
+refusal_text TooLong = codes "the length is above that of the file"
+refusal_text WrongSize = codes "the words do not make 6 to 4096 whole blocks"

@@ -1,10 +1,12 @@
 -- The parts of the image check, over words as code holds them.
-use Rattle.std.specs.Prelude.{◌≡◌, ℕ, ◌+◌, ◌/◌, ◌<◌, ◌≤◌, Bool, true, false, ◌⊎◌, List, ◌++◌, Ok, Err, Result, ◌≢◌}
+use Rattle.std.specs.Prelude.{◌≡◌, ℕ, ◌+◌, ◌/◌, ◌%◌, ◌^◌, ◌<◌, ◌≤◌, Bool, true, false, ◌⊎◌, List, Ok, Err, Result, ◌≢◌}
+use Rattle.std.specs.Coded.{Coded-set, coded_ℕ, le_prop, Π_prop}
+use Rattle.std.proofs.Common.{ap, subst, inl, inr, not-suc-le-zero}
 use Rattle.memory.specs.Bytes.{bytes_of}
 use Rattle.memory.specs.Model.{Model}
 use Rattle.memory.specs.Stores.{Words}
 use Rattle.layout.specs.BlockSet.{has}
-use Rattle.layout.specs.Image.{GoodRoot, DataBlock, in_block, map_of, length_of, file_blocks, used_blocks, Rule1, Rule2, Rule3}
+use Rattle.layout.specs.Image.{GoodRoot, DataBlock, in_block, map_of, length_of, file_blocks, used_blocks}
 use Rattle.layout.specs.Lists.{member, distinct}
 use Rattle.layout.specs.Log.{no_piece, piece_of, Sound, FirstBroken}
 use Rattle.layout.specs.Names.{well_formed}
@@ -48,23 +50,32 @@ RootGood n s = (s.name ≢ 0) → GoodRoot n s.root
 abbrev pub Rooted : ℕ → Directory → Type 0
 Rooted n d = (s : ℕ) → s < 16 → RootGood n (slot_at d s)
 
+-- it is so in one way at most: a map in block 3 or later is no root word zero
+GoodRoot-prop : (n root : ℕ) → IsProp (GoodRoot n root)
+GoodRoot-prop n root (inl a) (inl b) = ap inl (Coded-set coded_ℕ root 0 a b)
+GoodRoot-prop n root (inl a) (inr b) = absurd (not-suc-le-zero (subst (λ x. 3 ≤ map_of x) a b.1.0))
+GoodRoot-prop n root (inr a) (inl b) = absurd (not-suc-le-zero (subst (λ x. 3 ≤ map_of x) b a.1.0))
+GoodRoot-prop n root (inr a) (inr b) = ap inr (λ i. (Coded-set coded_ℕ (root / 2 ^ 16 % 2 ^ 16) 0 a.0 b.0 i, (le_prop a.1.0 b.1.0 i, le_prop a.1.1 b.1.1 i), le_prop a.2 b.2 i, le_prop a.3 b.3 i))
+
+pub Rooted-prop : (n : ℕ) (d : Directory) → IsProp (Rooted n d)
+Rooted-prop n d = Π_prop (λ s. Π_prop (λ lt. Π_prop (λ some. GoodRoot-prop n (slot_at d s).root)))
+
 -- the map words that count, of a map in block b for a file of that length, are data blocks
 abbrev pub MapGood : ℕ → Words → ℕ → ℕ → Type 0
 MapGood n w b len = (k : ℕ) → k < blocks_for len → DataBlock n (in_block w b k)
-
--- so for each named slot
-abbrev pub Mapped : ℕ → Words → Directory → Type 0
-Mapped n w d = (s : ℕ) → s < 16 → ((slot_at d s).name ≢ 0) → MapGood n w (map_of (slot_at d s).root) (length_of (slot_at d s).root)
 
 -- a set holds the blocks of a list
 abbrev pub HasAll : BlockSet → List ℕ → Type 0
 HasAll set xs = (b : ℕ) → has set b ≡ member b xs
 
--- Blocks xs are put into a set after those before: all are new, and the set holds them too; or one is there twice.
-pub record Added (before xs : List ℕ) (fresh : Bool) (set : BlockSet) : Type 0 where
-  pub all : fresh ≡ true → HasAll set (before ++ xs)
-  pub once : fresh ≡ true → distinct before ≡ true → distinct (before ++ xs) ≡ true
-  pub twice : fresh ≡ false → (zs : List ℕ) → distinct ((before ++ xs) ++ zs) ≡ false
+-- a set holds the blocks of a list in which none stands twice
+abbrev pub HasOnce : BlockSet → List ℕ → Type 0
+HasOnce set xs = HasAll set xs × (distinct xs ≡ true)
+
+-- a test gives true of some block of the file, or false of all
+abbrev pub AnyBlock : (ℕ → Bool → Type 0) → Words → ℕ → Bool → Type 0
+AnyBlock gives w root true = (k : ℕ) × (k < blocks_for (length_of root)) × gives (in_block w (map_of root) k) true
+AnyBlock gives w root false = (k : ℕ) → k < blocks_for (length_of root) → gives (in_block w (map_of root) k) false
 
 -- a piece of a file with that root word: none, or one to sixteen words that end inside a file block
 abbrev pub PieceGood : Words → ℕ → ℕ → Type 0
@@ -72,15 +83,15 @@ PieceGood w root x =
     (no_piece x ≡ true)
     ⊎ (let p = piece_of x in (1 ≤ p.count) × (p.count ≤ 16) × (p.first + p.count ≤ 32) × (member p.block (file_blocks w root) ≡ true))
 
+-- rule k, or a part of it, is tried: it holds, with an answer of which P does; or it fails, and the call is refused by it
+abbrev pub Tries : {X : Type 0} → Model → ℕ → Type 0 → (X → Type 0) → Result X Refusal → Model → Type 0
+Tries m k rule P (Ok x) n = Looked m n × rule × P x
+Tries m k rule P (Err e) n = RefusedBy e (LookedDown m n) (λ j. Looked m n × (j ≡ k) × (rule → ⊥))
+
 -- the image of a memory of that many blocks is sound, and the set has the blocks in use; or it is the first rule that fails
 abbrev pub Checked : ℕ → Model → Result BlockSet Refusal → Model → Type 0
 Checked blocks m (Ok set) n = Looked m n × Sound blocks m.seen × HasAll set (used_blocks m.seen)
 Checked blocks m (Err e) n = RefusedBy e (LookedDown m n) (λ k. Looked m n × FirstBroken k blocks m.seen)
-
--- the directory of such a memory, if the first three rules hold; or the first of them that fails
-abbrev pub Listed : ℕ → Model → Result Directory Refusal → Model → Type 0
-Listed blocks m (Ok d) n = Looked m n × Lists m.seen d × Rule1 blocks m.seen × Rule2 m.seen × Rule3 blocks m.seen
-Listed blocks m (Err e) n = RefusedBy e (LookedDown m n) (λ k. Looked m n × FirstBroken k blocks m.seen)
 
 -- the image of such a memory is sound, with the words of its slots and its blocks in use; or it is the first rule that fails
 abbrev pub Surveyed : ℕ → Model → Result Survey Refusal → Model → Type 0

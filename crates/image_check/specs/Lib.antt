@@ -1,5 +1,6 @@
 pub mod Answers
 pub mod Check
 pub mod Directory
+pub mod Files
 pub mod Reading
 pub mod Size

@@ -1,5 +1,5 @@
 -- Reading: loads alone, which store nothing.
-use Rattle.std.specs.Prelude.{◌≡◌, true, false, Ok, Err, Result}
+use Rattle.std.specs.Prelude.{◌≡◌, ◌⊎◌, true, false, Ok, Err, Result}
 use Rattle.memory.specs.Model.{Model, Fewer, SameSeen, WentDown}
 use Rattle.image_check.specs.declared.refusal.Refusal.{Refusal}
 use Rattle.image_check.specs.declared.refusal.Refusal.TheVariants.{PowerLost}
@@ -15,6 +15,10 @@ pub record Looked (m n : Model) : Type 0 where
 pub record LookedDown (m n : Model) : Type 0 where
   pub down : WentDown m n
   pub still : m.up ≡ false → n ≡ m
+
+-- nothing was done since, or there were loads alone and power lasted
+abbrev pub Since : Model → Model → Type 0
+Since m n = (n ≡ m) ⊎ Looked m n
 
 -- an answer of which P holds, or power was lost
 abbrev pub Reads : {X : Type 0} → Model → (X → Type 0) → Result X Refusal → Model → Type 0

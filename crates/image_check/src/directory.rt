@@ -31,24 +31,31 @@ fn root_is_good(word: u64, blocks: u64) -> bool
 }
 
 impl Slot {
+    // Whether no file is in the slot.
+    pub fn is_empty(&self) -> bool
+        ensures { Decides result (self.now.name ≡ 0) }
+    {
+        self.name == 0
+    }
+
     // Whether the slot is empty, or its name is well formed.
     fn has_good_name(&self) -> bool
         ensures { Decides result (NameGood self.now) }
     {
-        self.name == 0 || is_well_formed(&name_bytes(self.name))
+        self.is_empty() || is_well_formed(&name_bytes(self.name))
     }
 
     // Whether the slot is empty, or its root word is good.
     fn has_good_root(&self, blocks: u64) -> bool
         ensures { Decides result (RootGood blocks self.now) }
     {
-        self.name == 0 || root_is_good(self.root, blocks)
+        self.is_empty() || root_is_good(self.root, blocks)
     }
 }
 
 impl Directory {
     // Whether each name is well formed.
-    pub(crate) fn names_formed(&self) -> bool
+    fn names_formed(&self) -> bool
         ensures { Decides result (Formed self.now) }
     {
         for slot in &self.slots {
@@ -74,15 +81,22 @@ impl Directory {
     }
 
     // Whether no name stands twice.
-    pub(crate) fn names_differ(&self) -> bool
+    fn names_differ(&self) -> bool
         ensures { Decides result (Differ self.now) }
     {
         for (s, slot) in self.slots.iter().enumerate() {
-            if slot.name != 0 && !self.name_is_single(s) {
+            if !slot.is_empty() && !self.name_is_single(s) {
                 return false;
             }
         }
         true
+    }
+
+    // Whether each name is well formed, and none stands twice.
+    pub(crate) fn names_good(&self) -> bool
+        ensures { Decides result (Formed self.now × Differ self.now) }
+    {
+        self.names_formed() && self.names_differ()
     }
 
     // Whether each named slot has a good root word.

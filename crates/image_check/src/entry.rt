@@ -1,104 +1,79 @@
-ghost use Rattle.std.specs.Prelude.{◌≡◌, ◌*◌, ◌<◌, ◌≤◌, true, Decides};
-ghost use Rattle.layout.specs.Image.{file_blocks};
-ghost use Rattle.layout.specs.Lists.{member};
+ghost use Rattle.std.specs.Prelude.{◌≡◌, ◌*◌, ◌≤◌, ⊤};
+ghost use Rattle.memory.specs.Model.{Model};
 ghost use Rattle.layout.specs.Log.{Rule6};
-ghost use Rattle.image_check.specs.Check.{Rooted, PieceGood};
-ghost use Rattle.image_check.specs.Directory.{Lists};
-ghost use Rattle.image_check.specs.Reading.{Reads};
+ghost use Rattle.image_check.specs.Check.{PieceGood, Tries};
+ghost use Rattle.image_check.specs.Files.{FilesOf};
+ghost use Rattle.image_check.specs.Reading.{Looked};
 
-use crate::directory::Directory;
 use crate::file::File;
+use crate::files::Files;
 use crate::reading::load_word;
-use crate::refusal::Refusal;
+use crate::refusal::{Refusal, Rule};
 use layout::log::{LogState, Mark, Piece};
-use layout::place::{BLOCK_WORDS, END_PIECE, LOG_MARK, LOG_STATE, START_PIECE};
+use layout::place::{END_PIECE, LOG_MARK, LOG_STATE, START_PIECE};
 use memory::memory::Memory;
 
-// Whether a block is a file block of the file.
-fn is_file_block<M: Memory>(memory: &mut M, file: File, block: u64) -> Result<bool, Refusal>
-    requires up { (M.Memory.model memory.old).up ≡ true }
-    requires size { 32 * file.blocks ≤ (M.Memory.model memory.old).count }
-    ensures reads { Reads (M.Memory.model memory.old) (λ b. b ≡ member block (file_blocks (M.Memory.model memory.old).seen file.root)) result (M.Memory.model memory.new) }
-    ensures lent { M.Memory.lent memory.new ≡ M.Memory.lent memory.old }
-{
-    let map = BLOCK_WORDS * file.map();
-    for k in 0..file.length_in_blocks() {
-        let found = load_word(memory, map + k)?;
-        if found == block {
-            return Ok(true);
+impl File {
+    // Tries rule 6 on a piece: it is none, or one to sixteen words that end inside a block of the file.
+    fn check_piece<M: Memory>(&self, memory: &mut M, piece: u64) -> Result<(), Refusal>
+        ghost first: { Model }
+        requires looked { Looked first (M.Memory.model memory.old) }
+        requires size { 32 * self.now.blocks ≤ first.count }
+        ensures tries { Tries first 6 (PieceGood first.seen self.now.root piece) (λ _. ⊤) result (M.Memory.model memory.new) }
+        ensures lent { M.Memory.lent memory.new ≡ M.Memory.lent memory.old }
+    {
+        let Some(
+            Piece {
+                block,
+                first,
+                count,
+            },
+        ) = Piece::from_word(piece)
+        else {
+            return Ok(());
+        };
+        if count < 1 || count > 16 || u16::from(first) + u16::from(count) > 32 {
+            return Err(Refusal::BadImage(Rule::LogEntry));
         }
+        let block = u64::from(block);
+        if !self.any_block(memory, move |found| found == block)? {
+            return Err(Refusal::BadImage(Rule::LogEntry));
+        }
+        Ok(())
     }
-    Ok(false)
+
+    // Tries rule 6 on both pieces of the log entry.
+    fn check_pieces<M: Memory>(&self, memory: &mut M) -> Result<(), Refusal>
+        ghost first: { Model }
+        requires looked { Looked first (M.Memory.model memory.old) }
+        requires size { 32 * self.now.blocks ≤ first.count }
+        ensures tries { Tries first 6 (PieceGood first.seen self.now.root (first.seen 11) × PieceGood first.seen self.now.root (first.seen 12)) (λ _. ⊤) result (M.Memory.model memory.new) }
+        ensures lent { M.Memory.lent memory.new ≡ M.Memory.lent memory.old }
+    {
+        let start = load_word(memory, START_PIECE)?;
+        let end = load_word(memory, END_PIECE)?;
+        self.check_piece(memory, start)?;
+        self.check_piece(memory, end)
+    }
 }
 
-// Whether a piece is none, or one to sixteen words that end inside a file block.
-fn piece_is_good<M: Memory>(memory: &mut M, file: File, piece: u64) -> Result<bool, Refusal>
-    requires up { (M.Memory.model memory.old).up ≡ true }
-    requires size { 32 * file.blocks ≤ (M.Memory.model memory.old).count }
-    ensures reads { Reads (M.Memory.model memory.old) (λ b. Decides b (PieceGood (M.Memory.model memory.old).seen file.root piece)) result (M.Memory.model memory.new) }
-    ensures lent { M.Memory.lent memory.new ≡ M.Memory.lent memory.old }
-{
-    let Some(
-        Piece {
-            block,
-            first,
-            count,
-        },
-    ) = Piece::from_word(piece)
-    else {
-        return Ok(true);
-    };
-    if count < 1 || count > 16 || u16::from(first) + u16::from(count) > 32 {
-        return Ok(false);
+impl Files {
+    // Tries rule 6 on the log entry.
+    pub(crate) fn check_entry<M: Memory>(&self, memory: &mut M) -> Result<(), Refusal>
+        ghost first: { Model }
+        requires looked { Looked first (M.Memory.model memory.old) }
+        requires files { FilesOf first self.now }
+        ensures tries { Tries first 6 (Rule6 first.seen) (λ _. ⊤) result (M.Memory.model memory.new) }
+        ensures lent { M.Memory.lent memory.new ≡ M.Memory.lent memory.old }
+    {
+        let state = LogState::try_from(load_word(memory, LOG_STATE)?)?;
+        if state == LogState::Free {
+            return Ok(());
+        }
+        let mark = Mark::from(load_word(memory, LOG_MARK)?);
+        let Some(file) = self.file(usize::from(mark.slot)) else {
+            return Err(Refusal::BadImage(Rule::LogEntry));
+        };
+        file.check_pieces(memory)
     }
-    is_file_block(memory, file, u64::from(block))
-}
-
-// Whether both pieces of the log entry are good, for the file.
-fn pieces_are_good<M: Memory>(memory: &mut M, file: File) -> Result<bool, Refusal>
-    requires up { (M.Memory.model memory.old).up ≡ true }
-    requires size { 32 * file.blocks ≤ (M.Memory.model memory.old).count }
-    ensures reads { Reads (M.Memory.model memory.old) (λ b. Decides b (PieceGood (M.Memory.model memory.old).seen file.root ((M.Memory.model memory.old).seen 11) × PieceGood (M.Memory.model memory.old).seen file.root ((M.Memory.model memory.old).seen 12))) result (M.Memory.model memory.new) }
-    ensures lent { M.Memory.lent memory.new ≡ M.Memory.lent memory.old }
-{
-    let start = load_word(memory, START_PIECE)?;
-    let end = load_word(memory, END_PIECE)?;
-    let good = piece_is_good(memory, file, start)?;
-    if !good {
-        return Ok(false);
-    }
-    piece_is_good(memory, file, end)
-}
-
-// Whether the log entry is good, in a memory whose names, root words and maps are.
-pub(crate) fn entry_is_good<M: Memory>(
-    memory: &mut M,
-    directory: &Directory,
-    blocks: u64,
-) -> Result<bool, Refusal>
-    requires up { (M.Memory.model memory.old).up ≡ true }
-    requires size { 32 * blocks ≤ (M.Memory.model memory.old).count }
-    requires some { 6 ≤ blocks }
-    requires listed { Lists (M.Memory.model memory.old).seen directory.now }
-    requires roots { Rooted blocks directory.now }
-    ensures reads { Reads (M.Memory.model memory.old) (λ b. Decides b (Rule6 (M.Memory.model memory.old).seen)) result (M.Memory.model memory.new) }
-    ensures lent { M.Memory.lent memory.new ≡ M.Memory.lent memory.old }
-{
-    let state = load_word(memory, LOG_STATE)?;
-    let Ok(state) = LogState::try_from(state) else {
-        return Ok(false);
-    };
-    if state == LogState::Free {
-        return Ok(true);
-    }
-    let mark = load_word(memory, LOG_MARK)?;
-    let slot = usize::from(Mark::from(mark).slot);
-    if slot >= 16 || directory.slots[slot].name == 0 {
-        return Ok(false);
-    }
-    let file = File {
-        root: directory.slots[slot].root,
-        blocks,
-    };
-    pieces_are_good(memory, file)
 }

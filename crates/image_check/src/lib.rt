@@ -4,8 +4,10 @@
 pub mod directory;
 mod entry;
 mod file;
+mod files;
 pub mod image;
 mod maps;
 mod reading;
 pub mod refusal;
 pub mod size;
+mod used;

@@ -1,5 +1,6 @@
 ghost use Rattle.std.specs.Prelude.{◌≡◌, ℕ, ◌<◌, ◌≤◌, true};
-ghost use Rattle.image_check.specs.Reading.{Reads};
+ghost use Rattle.memory.specs.Model.{Model};
+ghost use Rattle.image_check.specs.Reading.{Looked, Since, Reads};
 ghost use Rattle.image_check.specs.Directory.{Lists, slot_of};
 
 use crate::directory::{Directory, Slot};
@@ -7,10 +8,12 @@ use crate::refusal::Refusal;
 use layout::place::SLOTS;
 use memory::memory::Memory;
 
-// The value seen in a word of the memory. It asks for a place inside, so it is not public, and `store` has its own.
+// The value seen in a word of the memory.
 pub(crate) fn load_word<M: Memory>(memory: &mut M, at: u64) -> Result<u64, Refusal>
-    requires { at < (M.Memory.model memory.old).count }
-    ensures reads { Reads (M.Memory.model memory.old) (λ v. v ≡ (M.Memory.model memory.old).seen at) result (M.Memory.model memory.new) }
+    ghost first: { Model }
+    requires since { Since first (M.Memory.model memory.old) }
+    requires inside { at < first.count }
+    ensures reads { Reads first (λ v. v ≡ first.seen at) result (M.Memory.model memory.new) }
     ensures lent { M.Memory.lent memory.new ≡ M.Memory.lent memory.old }
 {
     Ok(memory.load(at)?)
@@ -18,10 +21,11 @@ pub(crate) fn load_word<M: Memory>(memory: &mut M, at: u64) -> Result<u64, Refus
 
 // Loads the two words of a slot.
 fn load_slot<M: Memory>(memory: &mut M, s: usize) -> Result<Slot, Refusal>
-    requires up { (M.Memory.model memory.old).up ≡ true }
-    requires inside { 96 ≤ (M.Memory.model memory.old).count }
+    ghost first: { Model }
+    requires looked { Looked first (M.Memory.model memory.old) }
+    requires inside { 96 ≤ first.count }
     requires slot { s < 16 }
-    ensures reads { Reads (M.Memory.model memory.old) (λ slot. slot ≡ slot_of (M.Memory.model memory.old).seen s) result (M.Memory.model memory.new) }
+    ensures reads { Reads first (λ slot. slot ≡ slot_of first.seen s) result (M.Memory.model memory.new) }
     ensures lent { M.Memory.lent memory.new ≡ M.Memory.lent memory.old }
 {
     let at = SLOTS + 2 * s as u64;
@@ -32,9 +36,10 @@ fn load_slot<M: Memory>(memory: &mut M, s: usize) -> Result<Slot, Refusal>
 
 // Loads the directory of a memory that is up.
 pub(crate) fn load_directory<M: Memory>(memory: &mut M) -> Result<Directory, Refusal>
-    requires up { (M.Memory.model memory.old).up ≡ true }
-    requires inside { 96 ≤ (M.Memory.model memory.old).count }
-    ensures reads { Reads (M.Memory.model memory.old) (Lists (M.Memory.model memory.old).seen) result (M.Memory.model memory.new) }
+    ghost first: { Model }
+    requires looked { Looked first (M.Memory.model memory.old) }
+    requires inside { 96 ≤ first.count }
+    ensures reads { Reads first (Lists first.seen) result (M.Memory.model memory.new) }
     ensures lent { M.Memory.lent memory.new ≡ M.Memory.lent memory.old }
 {
     let mut slots = [Slot { name: 0, root: 0 }; 16];

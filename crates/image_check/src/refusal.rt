@@ -1,8 +1,12 @@
-ghost use Rattle.std.specs.Prelude.{◌≡◌};
-ghost use Rattle.image_check.specs.Answers.{number, rule_number};
-ghost use Rattle.image_check.specs.declared.refusal.Refusal.TheVariants.{PowerLost};
+ghost use Rattle.std.specs.Prelude.{◌≡◌, Some};
+ghost use Rattle.image_check.specs.Answers.{number, rule_number, refusal_text};
+ghost use Rattle.image_check.specs.declared.refusal.Refusal.TheVariants.{PowerLost, BadImage};
+ghost use Rattle.image_check.specs.declared.refusal.Rule.TheVariants.{LogEntry};
 
+use layout::log::UnknownState;
 use memory::fault::Fault;
+use std::error::Error;
+use std::fmt;
 
 // A rule of the image, in the order in which they are tried.
 #[derive(Clone, Copy, PartialEq, Eq, Debug)]
@@ -86,3 +90,31 @@ impl From<Fault> for Refusal {
         }
     }
 }
+
+// A log whose state is none of the three breaks the last rule.
+impl From<UnknownState> for Refusal {
+    ghost from_gives = { λ state refusal. refusal ≡ BadImage LogEntry };
+
+    fn from(_state: UnknownState) -> Refusal {
+        Refusal::BadImage(Rule::LogEntry)
+    }
+}
+
+impl fmt::Display for Refusal {
+    ghost output = { λ refusal. Some (refusal_text refusal) };
+
+    fn fmt<W: fmt::Write>(&self, f: &mut fmt::Formatter<W>) -> fmt::Result {
+        match self {
+            Refusal::PowerLost => f.write_str("power was lost"),
+            Refusal::BadImage(rule) => write!(f, "rule {} of the image fails", u8::from(*rule)),
+            Refusal::BadName => f.write_str("a name is not well formed"),
+            Refusal::NoFile => f.write_str("no file has the name"),
+            Refusal::NameTaken => f.write_str("a file has the new name"),
+            Refusal::TooManyFiles => f.write_str("sixteen files exist"),
+            Refusal::TooLong => f.write_str("the length is above that of the file"),
+            Refusal::WrongSize => f.write_str("the words do not make 6 to 4096 whole blocks"),
+        }
+    }
+}
+
+impl Error for Refusal {}

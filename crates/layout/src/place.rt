@@ -15,11 +15,20 @@ pub const LOG_STATE: u64 = 8;
 // the word that holds its mark
 pub const LOG_MARK: u64 = 9;
 
+// the word that holds the root word from before the call
+pub const OLD_ROOT: u64 = 10;
+
 // the word that holds its start piece
 pub const START_PIECE: u64 = 11;
 
 // the word that holds its end piece
 pub const END_PIECE: u64 = 12;
+
+// the first of the words where the log keeps the old ones of the start piece
+pub const OLD_START: u64 = 32;
+
+// the first of those of the end piece
+pub const OLD_END: u64 = 48;
 
 // the first word of the sixteen slots; the name word of a slot is followed by its root word
 pub const SLOTS: u64 = 64;

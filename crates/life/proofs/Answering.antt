@@ -1,12 +1,12 @@
 -- What the table says of a call, by its arguments and its answer. Assumes nothing.
-use Rattle.std.proofs.Common.{◌≡◌, ℕ, ◌+◌, ◌-◌, ◌<◌, Bool, true, false, cond, not, ◌&&◌, eqb, leb, ◌⊎◌, List, length, replicate, Some, None, Option, sym, refl, ap, ◌∙◌, inl, inr, ⊎_elim, arith}
-use Rattle.std.proofs.lemmas.Bool.{cases_Bool, cases_eq, ne_eqb, eq-eqb}
+use Rattle.std.proofs.Common.{◌≡◌, ℕ, ◌+◌, Bool, true, false, cond, not, ◌&&◌, eqb, leb, ◌⊎◌, List, length, replicate, Some, None, Option, sym, refl, ◌∙◌, inl, inr, ⊎_elim, arith}
+use Rattle.std.proofs.lemmas.Bool.{cases_eq, ne_eqb, eq-eqb}
 use Rattle.memory.specs.Model.{Model}
 use Rattle.memory.specs.Stores.{Words}
-use Rattle.layout.specs.Image.{Rule1, Rule2, Rule3, Rule4, Rule5, table_of}
+use Rattle.layout.specs.Image.{Rule1, Rule2, Rule3, Rule4, Rule5}
 use Rattle.layout.specs.Log.{Rule6, Rule, Sound, Clean, FirstBroken, FirstBusy, HoldsFiles}
 use Rattle.layout.specs.Names.{well_formed}
-use Rattle.layout.specs.Table.{Table, Ask, create, write, read, shorten, rename, remove, Reply, refuse, find, longest, early, answer, change, after, buffer}
+use Rattle.layout.specs.Table.{Table, Ask, create, write, read, shorten, rename, remove, Reply, refuse, longest, early, answer, after, buffer}
 use Rattle.images.proofs.Holding.{holds-buffer}
 use Rattle.life.specs.Life.{Shows, Blank}
 use Rattle.life.specs.Step.{Buffered}
@@ -30,26 +30,20 @@ pub clean-unbroken : (k n : ℕ) (w : Words) → Clean n w → FirstBusy k n w �
 clean-unbroken k n w c (inl first) = sound-unbroken k n w c.sound first
 clean-unbroken k n w c (inr busy) = busy.2 c.idle
 
--- the table after a call that it refuses, and after one that is done
+-- a call that the table refuses leaves it as it is
 pub after-refused : (t : Table) (a : Ask) → ((answer t a).number ≡ 0 → ⊥) → after t a ≡ t
-after-refused t a some = ap (λ (b : Bool). cond b (record { blocks = t.blocks; files = change t.files a }) t) (ne_eqb (answer t a).number 0 some)
+after-refused t a some = rw (ne_eqb (answer t a).number 0 some)
 
 pub cases-option : {X : Type 0} (o : Option X) → (o ≡ None) ⊎ ((x : X) × (o ≡ Some x))
 cases-option None = inl refl
 cases-option (Some x) = inr (x, refl)
 
 -- what the arguments alone call for is the table's answer, whatever the table is, and a refusal
-refused-by : (k : ℕ) (x : Reply) → 0 < k → Some (refuse k) ≡ Some x → (refuse k ≡ x) × (x.number ≡ 0 → ⊥)
-refused-by k x some e = let s : refuse k ≡ x = cc in (s, λ z. omega (arith, ap (λ (r : Reply). r.number) s))
-
 by-formed : (b : Bool) (x later : Reply) → cond {A = Option Reply} b None (Some (refuse 3)) ≡ Some x → (cond (not b) (refuse 3) later ≡ x) × (x.number ≡ 0 → ⊥)
-by-formed true x later e = cc
-by-formed false x later e = refused-by 3 x (omega arith) e
+by-formed b x later e = grind arith
 
 by-write : (b c : Bool) (x later : Reply) → cond {A = Option Reply} (not b) (Some (refuse 3)) (cond c None (Some (refuse 7))) ≡ Some x → (cond (not b) (refuse 3) (cond (not c) (refuse 7) later) ≡ x) × (x.number ≡ 0 → ⊥)
-by-write false c x later e = refused-by 3 x (omega arith) e
-by-write true true x later e = cc
-by-write true false x later e = refused-by 7 x (omega arith) e
+by-write b c x later e = grind arith
 
 pub early-answer : (t : Table) (a : Ask) (x : Reply) → early a ≡ Some x → (answer t a ≡ x) × (x.number ≡ 0 → ⊥)
 early-answer t (create n) x e = by-formed (well_formed n) x _ e
@@ -61,50 +55,23 @@ early-answer t (remove n) x e = by-formed (well_formed n) x _ e
 
 -- the buffer of a read that the table refuses is zero
 refused-buffer : (t : Table) (n : List ℕ) (offset count : ℕ) → ((answer t (read n offset count)).number ≡ 0 → ⊥) → buffer t n offset count ≡ replicate count 0
-refused-buffer t n offset count some = ⊎_elim formed unformed (cases_Bool (well_formed n))
-  where
-    whole : count - 0 ≡ count
-    whole = omega arith
-
-    unformed : well_formed n ≡ false → buffer t n offset count ≡ replicate count 0
-    unformed e = simp (e, whole)
-
-    formed : well_formed n ≡ true → buffer t n offset count ≡ replicate count 0
-    formed e = ⊎_elim missing (λ is. absurd (some (given is.0 is.1))) (cases-option (find n t.files))
-      where
-        missing : find n t.files ≡ None → buffer t n offset count ≡ replicate count 0
-        missing none = simp (e, none, whole)
-
-        given : (bs : List ℕ) → find n t.files ≡ Some bs → (answer t (read n offset count)).number ≡ 0
-        given bs is = simp (e, is)
+refused-buffer t n offset count some = grind arith
 
 -- a refusal shows the zeros that every table refuses with
 pub shows-early : (m : Model) (t : Table) (a : Ask) (r : Reply) (bytes : List ℕ) → r ≡ answer t a → (r.number ≡ 0 → ⊥) → Buffered m a r bytes → Shows t a bytes
-shows-early m t (create n) r bytes e s h = tt
-shows-early m t (write n offset bs) r bytes e s h = tt
 shows-early m t (read n offset count) r bytes e s h =
-    h ∙ ap (λ (b : Bool). cond b (buffer (table_of m.seen) n offset count) (replicate count 0)) (ne_eqb r.number 0 s) ∙ sym (refused-buffer t n offset count (λ z. s (ap (λ (x : Reply). x.number) e ∙ z)))
-shows-early m t (shorten n len) r bytes e s h = tt
-shows-early m t (rename n o) r bytes e s h = tt
-shows-early m t (remove n) r bytes e s h = tt
+    (rw (ne_eqb r.number 0 s) at h) ∙ sym (refused-buffer t n offset count (rw e at s))
+shows-early m t _ r bytes e s h = tt
 
 pub shows : (m : Model) (t : Table) (a : Ask) (r : Reply) (bytes : List ℕ) → Rule2 m.seen → HoldsFiles m.seen t → r ≡ answer t a → Buffered m a r bytes → Shows t a bytes
-shows m t (create n) r bytes two holds e h = tt
-shows m t (write n offset bs) r bytes two holds e h = tt
 shows m t (read n offset count) r bytes two holds e h =
     ⊎_elim
-    (λ z. h ∙ ap (λ (b : Bool). cond b (buffer (table_of m.seen) n offset count) (replicate count 0)) (eq-eqb r.number 0 z) ∙ holds-buffer m.seen t n offset count two holds)
+    (λ z. (rw (eq-eqb r.number 0 z) at h) ∙ holds-buffer m.seen t n offset count two holds)
     (λ s. shows-early m t (read n offset count) r bytes e s h)
     (cases_eq r.number 0)
-shows m t (shorten n len) r bytes two holds e h = tt
-shows m t (rename n o) r bytes two holds e h = tt
-shows m t (remove n) r bytes two holds e h = tt
+shows m t _ r bytes two holds e h = tt
 
 -- a read that is cut off leaves zeros
 pub blank : (m : Model) (a : Ask) (r : Reply) (bytes : List ℕ) → r ≡ refuse 1 → Buffered m a r bytes → Blank a bytes
-blank m (create n) r bytes e h = tt
-blank m (write n offset bs) r bytes e h = tt
-blank m (read n offset count) r bytes e h = h ∙ ap (λ (x : Reply). cond (eqb x.number 0) (buffer (table_of m.seen) n offset count) (replicate count 0)) e
-blank m (shorten n len) r bytes e h = tt
-blank m (rename n o) r bytes e h = tt
-blank m (remove n) r bytes e h = tt
+blank m (read n offset count) r bytes e h = rw e at h
+blank m _ r bytes e h = tt

@@ -1,5 +1,5 @@
 -- A formatted memory holds no files, and so a life can begin. Assumes nothing.
-use Rattle.std.proofs.Common.{◌≡◌, ℕ, ◌+◌, ◌*◌, ◌/◌, ◌<◌, ◌≤◌, Bool, true, false, not, eqb, List, [], ◌∷◌, ◌++◌, map, reverse, length, get_or, take, Ok, Option, Result, sym, refl, ap, ◌∙◌, subst, ⊎_elim, arith}
+use Rattle.std.proofs.Common.{◌≡◌, ℕ, ◌+◌, ◌*◌, ◌/◌, ◌<◌, ◌≤◌, Bool, true, false, not, eqb, List, [], ◌∷◌, ◌++◌, map, reverse, length, get_or, take, Ok, Option, Result, sym, refl, ap, ◌∙◌, ⊎_elim, arith}
 use Rattle.std.proofs.lemmas.List.{reverse-append, map-append, length-map, get_or-map, take_more, take_all}
 use Rattle.std.proofs.lemmas.Bool.{cases_Bool}
 use Rattle.std.proofs.lemmas.Bool.Decides.{nat_tests}
@@ -13,7 +13,6 @@ use Rattle.images.proofs.Holding.{holds-files, clean-leads}
 use Rattle.images.proofs.Lists.{joined_same}
 use Rattle.images.proofs.Rearranging.{rearranged-refl}
 use Rattle.images.proofs.Slots.{no-file}
-use Rattle.layout.specs.Lists.{Rearranged}
 use Rattle.image_check.specs.Size.{suits}
 use Rattle.image_check.proofs.Sizing.{size-blocks}
 use Rattle.store.specs.Format.{formatted, Formatted, Formats}
@@ -23,7 +22,7 @@ use Rattle.life.specs.Step.{Did}
 use Rattle.life.specs.Told.{reply_of, event, Lives}
 use Rattle.life.specs.declared.answer.Denial.{Denial}
 use Rattle.life.specs.declared.call.Call.{Call}
-use Rattle.life.specs.declared.call.Call.TheVariants.{Restart, Recover, File}
+use Rattle.life.specs.declared.call.Call.TheVariants.{Restart}
 use Rattle.life.proofs.Living.{Alive, settled_same, lives-on}
 
 -- an image with no name has no files
@@ -48,7 +47,7 @@ module _ (n : ℕ) (w : Words) (size : w 0 ≡ n) (idle : w 8 ≡ 0) (bare : (s 
       three = λ s lt name. never s lt name;
       four = λ s k lt name. never s lt name;
       five = ap distinct no-used;
-      six = record { known = subst (λ x. x ≤ 2) (sym idle) (omega arith); entry = λ busy. absurd (busy idle) };
+      six = record { known = rw idle (omega arith); entry = λ busy. absurd (busy idle) };
     };
     idle = idle;
   }
@@ -59,16 +58,15 @@ formatted-slot blocks w s lt = grind (arith, nat_tests)
 
 pub begins-alive : (m f : Model) → suits m.count ≡ true → Formatted (m.count / 32) m f → Alive f [] f
 begins-alive m f t h =
-    let b = size-blocks m.count (m.count / 32) t refl in
-    let blocks : f.count / 32 ≡ m.count / 32 = ap (λ x. x / 32) h.count in
-    let suitable : suits f.count ≡ true = subst (λ x. suits x ≡ true) (sym h.count) t in
+    let blocks : f.count / 32 ≡ m.count / 32 = rw h.count in
+    let suitable : suits f.count ≡ true = rw h.count t in
     let c = size-blocks f.count (f.count / 32) suitable refl in
-    let zero : f.seen 0 ≡ f.count / 32 = h.seen 0 (omega (arith, b.0, b.2)) ∙ sym blocks in
-    let idle : f.seen 8 ≡ 0 = h.seen 8 (omega (arith, b.0, b.2)) in
-    let bare : (s : ℕ) → s < 16 → name_word f.seen s ≡ 0 = λ s lt. h.seen (64 + 2 * s) (omega (arith, b.0, b.2)) ∙ formatted-slot (m.count / 32) m.seen s lt in
+    let zero : f.seen 0 ≡ f.count / 32 = h.seen 0 (omega (arith, c.0, c.2)) ∙ sym blocks in
+    let idle : f.seen 8 ≡ 0 = h.seen 8 (omega (arith, c.0, c.2)) in
+    let bare : (s : ℕ) → s < 16 → name_word f.seen s ≡ 0 = λ s lt. h.seen (64 + 2 * s) (omega (arith, c.0, c.2)) ∙ formatted-slot (m.count / 32) m.seen s lt in
     let clean = bare-clean (f.count / 32) f.seen zero idle bare in
     let none = no-files (f.count / 32) f.seen zero idle bare in
-    let holds : HoldsFiles f.seen (empty (f.count / 32)) = holds-files (f.count / 32) f.seen (empty (f.count / 32)) clean.sound zero (subst (λ fs. Rearranged fs []) (sym none) (rearranged-refl [])) in
+    let holds : HoldsFiles f.seen (empty (f.count / 32)) = holds-files (f.count / 32) f.seen (empty (f.count / 32)) clean.sound zero (rw none (rearranged-refl [])) in
     record {
       suitable = suitable;
       count = refl;
@@ -84,13 +82,7 @@ alive-lived f es m calls seen alive all = let now = alive.found m.seen seen in r
 
 -- format that is done begins a life
 pub formats-alive : (m f : Model) → Formats m (Ok tt) f → Alive f [] f
-formats-alive m f h = ⊎_elim (λ t. ⊎_elim (λ d. begins-alive m f t d.1) (λ e. let bad = e.0 in cc) (h.taken t)) (λ no. let bad = (h.refused no).0 in cc) (cases_Bool (suits m.count))
-
--- one call more
-ready-alike : (a b : ℕ) (call : Call) (d r : Bool) → ready_after (asked a call) d r ≡ ready_after (asked b call) d r
-ready-alike a b Restart d r = refl
-ready-alike a b Recover d r = refl
-ready-alike a b (File x) d r = refl
+formats-alive m f h = ⊎_elim (λ t. ⊎_elim (λ d. begins-alive m f t d.1) (λ e. cc) (h.taken t)) (λ no. cc ((h.refused no).0)) (cases_Bool (suits m.count))
 
 -- After some of the calls of a life: the events that the witness was told of them, and what is known by them.
 pub record Along (f : Model) (calls : List Asked) (before now : List Event → Type 0) (is_ready : Bool) (m : Model) : Type 0 where
@@ -101,19 +93,14 @@ pub record Along (f : Model) (calls : List Asked) (before now : List Event → T
   pub all : map (λ (e : Event). e.asked) (reverse events) ≡ calls
 
 asked-more : (es : List Event) (calls : List Asked) (i : ℕ) (e : Event) → i < length calls → e.asked ≡ get_or calls i restart → map (λ (x : Event). x.asked) (reverse es) ≡ take i calls → map (λ (x : Event). x.asked) (reverse (e ∷ es)) ≡ take (i + 1) calls
-asked-more es calls i e lt is before =
-    ap (map (λ (x : Event). x.asked)) (reverse-append (e ∷ []) es)
-    ∙ map-append (λ (x : Event). x.asked) (reverse es) (e ∷ [])
-    ∙ ap (λ xs. xs ++ e.asked ∷ []) before
-    ∙ ap (λ a. take i calls ++ a ∷ []) is
-    ∙ sym (take_more calls i restart lt)
+asked-more es calls i e lt is before = rw (reverse-append (e ∷ []) es, map-append, before, is) (sym (take_more calls i restart lt))
 
 pub along-more : (f m n : Model) (calls : List Call) (i count : ℕ) (before now next : List Event → Type 0) (b x : Bool) (answer : Result (Option ℕ) Denial) (bytes : List ℕ)
     → i < length calls
     → length bytes ≡ count
     → Along f (take i (map (asked count) calls)) before now b m
     → Did m b (asked count (get_or calls i Restart)) (reply_of answer) bytes n
-    → x ≡ ready_after (asked 0 (get_or calls i Restart)) (is_done (reply_of answer)) b
+    → x ≡ ready_after (asked count (get_or calls i Restart)) (is_done (reply_of answer)) b
     → ((es : List Event) → now es → next (event (get_or calls i Restart) answer bytes n ∷ es))
     → Along f (take (i + 1) (map (asked count) calls)) before next x n
 along-more f m n calls i count before now next b x answer bytes lt long along did is told =
@@ -123,9 +110,9 @@ along-more f m n calls i count before now next b x answer bytes lt long along di
     record {
       events = event call answer bytes n ∷ es;
       told = λ old h. told (es ++ old) (along.told old h);
-      alive = lives-on f es m (asked (length bytes) call) r bytes n along.alive (rw long (subst (λ y. Did m y (asked count call) r bytes n) along.same_ready did));
-      same_ready = is ∙ ready-alike 0 (length bytes) call (is_done r) b ∙ ap (ready_after (asked (length bytes) call) (is_done r)) along.same_ready;
-      all = asked-more es (map (asked count) calls) i (event call answer bytes n) (simp length-map lt) (ap (λ k. asked k call) long ∙ sym (get_or-map (asked count) calls i Restart restart lt)) along.all;
+      alive = lives-on f es m (asked (length bytes) call) r bytes n along.alive (rw (long, ← along.same_ready) did);
+      same_ready = rw (long, ← along.same_ready) is;
+      all = asked-more es (map (asked count) calls) i (event call answer bytes n) (simp length-map lt) (rw long (sym (get_or-map (asked count) calls i Restart restart lt))) along.all;
     }
 
 -- all calls are made, and the life is lived

@@ -1,6 +1,6 @@
 -- A life goes on: what each call does keeps what is known of the memory, and the table explains it. Assumes nothing.
-use Rattle.std.proofs.Common.{◌≡◌, ℕ, ◌*◌, ◌/◌, ◌<◌, ◌≤◌, Bool, true, false, cond, ◌⊎◌, List, [], ◌∷◌, Some, Ok, Err, Result, sym, refl, ap, ◌∙◌, subst, inl, inr, ⊎_elim, arith}
-use Rattle.std.proofs.lemmas.Bool.{true≢false, eqb-true, cases_Bool, cases_eq}
+use Rattle.std.proofs.Common.{◌≡◌, ℕ, ◌*◌, ◌/◌, ◌<◌, ◌≤◌, Bool, true, false, cond, ◌⊎◌, List, [], ◌∷◌, Some, Ok, Err, Result, sym, refl, ◌∙◌, inl, inr, ⊎_elim, arith}
+use Rattle.std.proofs.lemmas.Bool.{eqb-true, cases_Bool, cases_eq}
 use Rattle.memory.specs.Model.{Model, In, Settled, Restarted}
 use Rattle.memory.specs.Stores.{Words}
 use Rattle.memory.proofs.Putting.{up-down}
@@ -38,7 +38,7 @@ event a r bytes n = record { asked = a; reply = r; buffer = bytes; memory = n }
 
 -- of a settled memory only the image seen can be found
 pub settled_same : (n : ℕ) (m : Model) (v : Words) → Settled m → Drawn m v → 32 * n ≤ m.count → Same n m.seen v
-settled_same n m v settled drawn size i lt = ⊎_elim (λ e. e) (λ k. absurd k) (settled i (omega arith) (v i) (drawn i (omega arith)))
+settled_same n m v settled drawn size i lt = grind (arith, settled i (omega arith) (v i) (drawn i (omega arith)))
 
 -- an image found leads to a table that the event takes an earlier one to
 abbrev Reached : Model → List Event → Model → Event → Words → Type 0
@@ -49,15 +49,15 @@ module _ (f : Model) (es : List Event) (m : Model) (alive : Alive f es m) where
   big = (size-blocks f.count (f.count / 32) alive.suitable refl).0
 
   size : 32 * (f.count / 32) ≤ m.count
-  size = subst (λ x. 32 * (f.count / 32) ≤ x) (sym alive.count) (size-blocks f.count (f.count / 32) alive.suitable refl).2
+  size = rw alive.count (size-blocks f.count (f.count / 32) alive.suitable refl).2
 
   -- the next event is explained
   next : (e : Event) (u v : Table) → Explained f (empty (f.count / 32)) es u → Takes m u (ready es) e.asked e v → Explained f (empty (f.count / 32)) (e ∷ es) v
-  next e u v before takes = goes_on e before (subst (λ x. Takes x u (ready es) e.asked e v) (sym alive.last) takes)
+  next e u v before takes = goes_on e before (rw alive.last takes)
 
   -- fewer images can be found
   drawn-fewer : (n : Model) (v : Words) → n.count ≡ m.count → ((i : ℕ) → i < m.count → (x : ℕ) → In x (n.may i) → In x (m.may i)) → Drawn n v → Drawn m v
-  drawn-fewer n v count fewer drawn i lt = fewer i lt (v i) (drawn i (subst (λ x. i < x) (sym count) lt))
+  drawn-fewer n v count fewer drawn i lt = fewer i lt (v i) (drawn i (rw count lt))
 
   restart-takes : (u : Table) (r : Reply) (bytes : List ℕ) (n : Model) (b : Bool) → RestartTakes u (event restart r bytes n) u → Takes m u b restart (event restart r bytes n) u
   restart-takes u r bytes n true h = h
@@ -68,7 +68,7 @@ module _ (f : Model) (es : List Event) (m : Model) (alive : Alive f es m) where
       let e = event restart (done []) bytes n in
       let drawn : Drawn m n.seen = λ i lt. h.2 i lt in
       let now = alive.found n.seen drawn in
-      let room = subst (λ x. 32 * (f.count / 32) ≤ x) (sym h.1) size in
+      let room : 32 * (f.count / 32) ≤ n.count = rw h.1 size in
       let told = next e now.0 now.0 now.1 (restart-takes now.0 (done []) bytes n (ready es) (refl, inr (refl, h.0))) in
       record {
         suitable = alive.suitable;
@@ -76,7 +76,7 @@ module _ (f : Model) (es : List Event) (m : Model) (alive : Alive f es m) where
         last = refl;
         found = λ v d. (now.0, told, same-leads (f.count / 32) n big room v now.0 (settled_same (f.count / 32) n v h.3 d room) now.2);
         settled = λ _. h.3;
-        held = λ _. (now.0, told, now.2, λ no. absurd (true≢false (sym no)));
+        held = λ _. (now.0, told, now.2, λ no. cc);
       }
   restarted false bytes n h =
       let e = event restart (refuse 1) bytes n in
@@ -93,36 +93,41 @@ module _ (f : Model) (es : List Event) (m : Model) (alive : Alive f es m) where
 
   -- a call that left the memory as it was, and that every table explains so
   stays : (e : Event) → e.memory ≡ m → ready (e ∷ es) ≡ ready es → ((u : Table) → Takes m u (ready es) e.asked e u) → Alive f (e ∷ es) e.memory
-  stays e is same takes = record {
-    suitable = alive.suitable;
-    count = ap (λ (x : Model). x.count) is ∙ alive.count;
-    last = refl;
-    found = λ v d. let now = alive.found v (subst (λ (x : Model). Drawn x v) is d) in (now.0, next e now.0 now.0 now.1 (takes now.0), now.2);
-    settled = λ up. subst Settled (sym is) (alive.settled (ap (λ (x : Model). x.up) (sym is) ∙ up));
-    held = λ up.
-        let now = alive.held (ap (λ (x : Model). x.up) (sym is) ∙ up) in
-        let seen : m.seen ≡ e.memory.seen = ap (λ (x : Model). x.seen) (sym is) in
-        (now.0, next e now.0 now.0 now.1 (takes now.0), subst (λ w. LeadsToFiles (f.count / 32) w now.0) seen now.2, λ yes. let h = now.3 (sym same ∙ yes) in (subst (Clean (f.count / 32)) seen h.0, subst (λ w. HoldsFiles w now.0) seen h.1));
-  }
+  stays e is same takes =
+      let still : Alive f es e.memory = rw is alive in
+      record {
+        suitable = alive.suitable;
+        count = still.count;
+        last = refl;
+        found = λ v d. let now = still.found v d in (now.0, next e now.0 now.0 now.1 (takes now.0), now.2);
+        settled = still.settled;
+        held = λ up. let now = still.held up in (now.0, next e now.0 now.0 now.1 (takes now.0), now.2, λ yes. now.3 (sym same ∙ yes));
+      }
 
-  -- power was lost in a call, and every image found leads to a table that the call takes an earlier one to
+  -- Power was lost in a call: without power before it the memory is as it was, and with power every image found leads to a
+  -- table that the call takes an earlier one to.
   cut_off : (e : Event) → e.memory.up ≡ false → e.memory.count ≡ m.count
-      → ((v : Words) → Drawn e.memory v → Reached f es m e v)
+      → (m.up ≡ false → e.memory ≡ m)
+      → ((u : Table) → Takes m u (ready es) e.asked e u)
+      → (m.up ≡ true → (v : Words) → Drawn e.memory v → Reached f es m e v)
       → Alive f (e ∷ es) e.memory
-  cut_off e down count leads = record {
+  cut_off e down count still lost leads = record {
     suitable = alive.suitable;
     count = count ∙ alive.count;
     last = refl;
-    found = λ v d. let h = leads v d in (h.1, next e h.0 h.1 h.2 h.3, h.4);
+    found = λ v d. let h = ⊎_elim (λ up. leads up v d) (without v d) (cases_Bool m.up) in (h.1, next e h.0 h.1 h.2 h.3, h.4);
     settled = λ up. absurd (up-down e.memory.up up down);
     held = λ up. absurd (up-down e.memory.up up down);
   }
+    where
+      without : (v : Words) → Drawn e.memory v → m.up ≡ false → Reached f es m e v
+      without v d off = let now = alive.found v (rw (still off) at d) in (now.0, now.0, now.1, lost now.0, now.2)
 
   -- a call was done, or refused with power: the image seen is clean and holds the table w
   done-with : (e : Event) (u w : Table) → e.memory.count ≡ m.count → Settled e.memory → Clean (f.count / 32) e.memory.seen → HoldsFiles e.memory.seen w → Explained f (empty (f.count / 32)) es u → Takes m u (ready es) e.asked e w → Alive f (e ∷ es) e.memory
   done-with e u w count settled clean holds before takes =
       let told = next e u w before takes in
-      let room = subst (λ x. 32 * (f.count / 32) ≤ x) (sym count) size in
+      let room : 32 * (f.count / 32) ≤ e.memory.count = rw count size in
       record {
         suitable = alive.suitable;
         count = count ∙ alive.count;
@@ -133,15 +138,15 @@ module _ (f : Model) (es : List Event) (m : Model) (alive : Alive f es m) where
       }
 
   suits-here : suits m.count ≡ true
-  suits-here = subst (λ x. suits x ≡ true) (sym alive.count) alive.suitable
+  suits-here = rw alive.count alive.suitable
 
   blocks-here : m.count / 32 ≡ f.count / 32
-  blocks-here = ap (λ x. x / 32) alive.count
+  blocks-here = rw alive.count
 
   -- recovery
   module _ (bytes : List ℕ) (n : Model) (unread : ready es ≡ false) where
     recover-takes : (r : Reply) (u : Table) → RecoverTakes u (event recover r bytes n) u → Takes m u (ready es) recover (event recover r bytes n) u
-    recover-takes r u h = subst (λ b. Takes m u b recover (event recover r bytes n) u) (sym unread) h
+    recover-takes r u h = rw unread h
 
     recover-done : (put : Bool) → RecoverDone (f.count / 32) m put n → Alive f (event recover (done (put_back put)) bytes n ∷ es) n
     recover-done put d =
@@ -151,17 +156,13 @@ module _ (f : Model) (es : List Event) (m : Model) (alive : Alive f es m) where
         (recover-takes (done (put_back put)) now.0 (refl, inr (refl, (holds, d.clean.sound.five))))
 
     recover-cut : RecoverCut (f.count / 32) m n → Alive f (event recover (refuse 1) bytes n ∷ es) n
-    recover-cut cut = cut_off (event recover (refuse 1) bytes n) cut.down cut.count (λ v d. ⊎_elim (with-power v d) (without v d) (cases_Bool m.up))
+    recover-cut cut = cut_off (event recover (refuse 1) bytes n) cut.down cut.count cut.still lost with-power
       where
-        with-power : (v : Words) → Drawn n v → m.up ≡ true → Reached f es m (event recover (refuse 1) bytes n) v
-        with-power v d up =
-            let now = alive.held up in
-            (now.0, now.0, now.1, recover-takes (refuse 1) now.0 (refl, inl (refl, cut.down)), cut.leads (alive.settled up) v d now.0 now.2)
+        lost : (u : Table) → Takes m u (ready es) recover (event recover (refuse 1) bytes n) u
+        lost u = recover-takes (refuse 1) u (refl, inl (refl, cut.down))
 
-        without : (v : Words) → Drawn n v → m.up ≡ false → Reached f es m (event recover (refuse 1) bytes n) v
-        without v d down =
-            let now = alive.found v (subst (λ (x : Model). Drawn x v) (cut.still down) d) in
-            (now.0, now.0, now.1, recover-takes (refuse 1) now.0 (refl, inl (refl, cut.down)), now.2)
+        with-power : m.up ≡ true → (v : Words) → Drawn n v → Reached f es m (event recover (refuse 1) bytes n) v
+        with-power up v d = let now = alive.held up in (now.0, now.0, now.1, lost now.0, cut.leads (alive.settled up) v d now.0 now.2)
 
     never-bad : (k : ℕ) → Looked m n → FirstBroken k (f.count / 32) m.seen → ⊥
     never-bad k looked first = sound-unbroken k (f.count / 32) m.seen (alive.held looked.was-up).2.sound first
@@ -175,37 +176,32 @@ module _ (f : Model) (es : List Event) (m : Model) (alive : Alive f es m) where
   -- a file call on a ready store
   module _ (a : Ask) (r : Reply) (bytes : List ℕ) (n : Model) (is-ready : ready es ≡ true) (buffered : Buffered m a r bytes) where
     file-takes : (u w : Table) → FileTakes u a (event (file a) r bytes n) w → Takes m u (ready es) (file a) (event (file a) r bytes n) w
-    file-takes u w h = subst (λ b. Takes m u b (file a) (event (file a) r bytes n) w) (sym is-ready) h
+    file-takes u w h = rw is-ready h
 
     file-refused : (u : Table) → r ≡ answer u a → (r.number ≡ 0 → ⊥) → Shows u a bytes → Takes m u (ready es) (file a) (event (file a) r bytes n) u
     file-refused u answers some show =
-        file-takes u u (inr (answers, show, sym (after-refused u a (λ z. some (ap (λ (y : Reply). y.number) answers ∙ z))), λ d. absurd (some (eqb-true r.number 0 d))))
+        file-takes u u (inr (answers, show, sym (after-refused u a (rw answers at some)), λ d. absurd (some (eqb-true r.number 0 d))))
 
     -- refused for its arguments
     file-early : (x : Reply) → early a ≡ Some x → r ≡ x → n ≡ m → Alive f (event (file a) r bytes n ∷ es) n
     file-early x wrong is same = stays (event (file a) r bytes n) same refl (λ u.
         let says = early-answer u a x wrong in
-        let some : r.number ≡ 0 → ⊥ = λ z. says.1 (ap (λ (y : Reply). y.number) (sym is) ∙ z) in
+        let some : r.number ≡ 0 → ⊥ = rw is says.1 in
         let answers : r ≡ answer u a = is ∙ sym says.0 in
         file-refused u answers some (shows-early m u a r bytes answers some buffered))
 
     file-cut : r ≡ refuse 1 → CallCut (f.count / 32) m a n → Alive f (event (file a) r bytes n ∷ es) n
-    file-cut is cut = cut_off (event (file a) r bytes n) cut.down cut.count (λ v d. ⊎_elim (with-power v d) (without v d) (cases_Bool m.up))
+    file-cut is cut = cut_off (event (file a) r bytes n) cut.down cut.count cut.still (λ u. lost u u (inl refl)) with-power
       where
         lost : (u w : Table) → (w ≡ u) ⊎ (w ≡ after u a) → Takes m u (ready es) (file a) (event (file a) r bytes n) w
         lost u w choice = file-takes u w (inl ((is, cut.down), blank m a r bytes is buffered, choice))
 
-        with-power : (v : Words) → Drawn n v → m.up ≡ true → Reached f es m (event (file a) r bytes n) v
-        with-power v d up =
+        with-power : m.up ≡ true → (v : Words) → Drawn n v → Reached f es m (event (file a) r bytes n) v
+        with-power up v d =
             let now = alive.held up in
             let h = now.3 is-ready in
             ⊎_elim {C = Reached f es m (event (file a) r bytes n) v} (λ l. (now.0, now.0, now.1, lost now.0 now.0 (inl refl), l)) (λ l. (now.0, after now.0 a, now.1, lost now.0 (after now.0 a) (inr refl), l))
             (cut.leads (alive.settled up) h.0 now.0 h.1 v d)
-
-        without : (v : Words) → Drawn n v → m.up ≡ false → Reached f es m (event (file a) r bytes n) v
-        without v d down =
-            let now = alive.found v (subst (λ (x : Model). Drawn x v) (cut.still down) d) in
-            (now.0, now.0, now.1, lost now.0 now.0 (inl refl), now.2)
 
     file-answered : (u : Table) → Explained f (empty (f.count / 32)) es u → HoldsFiles m.seen u → Answered (f.count / 32) m a r n → Alive f (event (file a) r bytes n ∷ es) n
     file-answered u before holds ans = ⊎_elim ended turned-away (cases_eq r.number 0)
@@ -238,7 +234,7 @@ module _ (f : Model) (es : List Event) (m : Model) (alive : Alive f es m) where
 
     filed : FileCall m a r n → Alive f (event (file a) r bytes n ∷ es) n
     filed call =
-        ⊎_elim (λ none. file-took (subst (λ b. Took b m a r n) blocks-here (call.taken none suits-here))) (λ x. let h = call.wrong x.0 x.1 in file-early x.0 x.1 h.0 h.1)
+        ⊎_elim (λ none. file-took (rw blocks-here at (call.taken none suits-here))) (λ x. let h = call.wrong x.0 x.1 in file-early x.0 x.1 h.0 h.1)
         (cases-option (early a))
 
 -- What one call does keeps what is known.
@@ -246,17 +242,17 @@ pub lives-on : (f : Model) (es : List Event) (m : Model) (a : Asked) (r : Reply)
 lives-on f es m a r bytes n alive did = go a (ready es) refl did
   where
     went : (up : Bool) → Restarted m up n → r ≡ cond up (done []) (refuse 1) → Alive f (event restart r bytes n ∷ es) n
-    went up h e = subst (λ x. Alive f (event restart x bytes n ∷ es) n) (sym e) (restarted f es m alive up bytes n h)
+    went up h e = rw e (restarted f es m alive up bytes n h)
 
     not-allowed : (a : Asked) (b : Bool) → ready es ≡ b → r ≡ refuse 10 → n ≡ m → ready (event a (refuse 10) bytes n ∷ es) ≡ ready es → ((u : Table) → Takes m u b a (event a (refuse 10) bytes n) u) → Alive f (event a r bytes n ∷ es) n
     not-allowed a b e ten is same takes =
-        subst (λ x. Alive f (event a x bytes n ∷ es) n) (sym ten) (stays f es m alive (event a (refuse 10) bytes n) is same (λ u. subst (λ x. Takes m u x a (event a (refuse 10) bytes n) u) (sym e) (takes u)))
+        rw ten (stays f es m alive (event a (refuse 10) bytes n) is same (λ u. rw e (takes u)))
 
     go : (a : Asked) (b : Bool) → ready es ≡ b → Did m b a r bytes n → Alive f (event a r bytes n ∷ es) n
     go restart true e h = went h.0 h.1 h.2
     go restart false e h = went h.0 h.1 h.2
     go recover true e h = not-allowed recover true e h.0 h.1 refl (λ u. (refl, refl, h.1))
     go recover false e h =
-        subst (λ x. Alive f (event recover x bytes n ∷ es) n) (sym h.2) (recovered f es m alive bytes n e h.0 (subst (λ b. Recovering b m h.0 n) (blocks-here f es m alive) (h.1.taken (suits-here f es m alive))))
+        rw h.2 (recovered f es m alive bytes n e h.0 (rw (blocks-here f es m alive) at (h.1.taken (suits-here f es m alive))))
     go (file x) true e h = filed f es m alive x r bytes n e h.1 h.0
     go (file x) false e h = not-allowed (file x) false e h.0 h.1 refl (λ u. (refl, refl, h.1))

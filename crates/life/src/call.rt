@@ -1,19 +1,15 @@
 use layout::name::Name;
-
-// What a file call asks for.
-#[derive(Clone, Copy)]
-pub enum Ask<'a> {
-    Create(&'a Name),
-    Read(&'a Name, u32),
-    Shorten(&'a Name, u32),
-    Rename(&'a Name, &'a Name),
-    Remove(&'a Name),
-}
+use store::change::Change;
 
 // What a store is asked in a life.
-#[derive(Clone, Copy)]
-pub enum Call<'a> {
+#[derive(Clone, Copy, PartialEq, Eq, Debug)]
+pub enum Call {
+    // turn power off and on again
     Restart,
+    // make the store ready for file calls
     Recover,
-    File(Ask<'a>),
+    // change the directory
+    Change(Change),
+    // read a file from an offset on
+    Read { name: Name, offset: u32 },
 }

@@ -4,7 +4,7 @@ ghost use Rattle.life.specs.Asked.{asked};
 ghost use Rattle.life.specs.Told.{Lives};
 
 use crate::call::Call;
-use crate::step::{ready_after, step};
+use crate::step::step;
 use crate::witness::Witness;
 use image_check::refusal::Refusal;
 use memory::memory::Memory;
@@ -14,7 +14,7 @@ use store::format::format;
 // Formats a pile and, once that is done, makes the calls on it one after another, each told to the witness with its answer.
 pub fn live<M: Memory, W: Witness<Pile<M>>>(
     memory: &mut Pile<M>,
-    calls: &[Call<'_>],
+    calls: &[Call],
     buffer: &mut [u8],
     witness: &mut W,
 ) -> Result<(), Refusal>
@@ -24,8 +24,7 @@ pub fn live<M: Memory, W: Witness<Pile<M>>>(
     format(memory)?;
     let mut ready = false;
     for call in calls {
-        let answer = step(memory, ready, *call, buffer);
-        ready = ready_after(ready, *call, answer);
+        let answer = step(memory, &mut ready, *call, buffer);
         witness.note(*call, answer, buffer, memory);
     }
     Ok(())

@@ -12,6 +12,6 @@ pub trait Witness<M: Memory> {
     ghost told: { Self → List Event → Type 0 };
 
     // Takes note of a call.
-    fn note(&mut self, call: Call<'_>, answer: Answer, buffer: &[u8], memory: &M)
-        ensures { (es : List Event) → told self.old es → told self.new (event call.entry answer buffer.now (M.Memory.model memory.now) ∷ es) };
+    fn note(&mut self, call: Call, answer: Answer, buffer: &[u8], memory: &M)
+        ensures { (es : List Event) → told self.old es → told self.new (event call answer buffer.now (M.Memory.model memory.now) ∷ es) };
 }

@@ -6,7 +6,7 @@ ghost use Rattle.life.specs.Life.{Event};
 use image_check::refusal::Refusal;
 use layers::part::Run;
 use life::answer::{Answer, Denial};
-use life::call::{Ask, Call};
+use life::call::Call;
 use life::live::live;
 use life::witness::Witness;
 use media::lagging::LaggingMemory;
@@ -15,6 +15,7 @@ use memory::memory::Memory;
 use piles::pile::Pile;
 use std::alloc::Global;
 use std::io::Write;
+use store::change::Change;
 
 // the words of the memory: eight blocks of 32
 const WORDS: usize = 256;
@@ -38,7 +39,7 @@ struct Tally {
 impl<M: Memory> Witness<M> for Tally {
     ghost told = { λ s es. Unit {0} };
 
-    fn note(&mut self, _call: Call<'_>, answer: Answer, _buffer: &[u8], _memory: &M) {
+    fn note(&mut self, _call: Call, answer: Answer, _buffer: &[u8], _memory: &M) {
         self.told = self.told.saturating_add(1);
         if let Err(Denial::Refused(Refusal::BadImage(_))) = answer {
             self.bad = self.bad.saturating_add(1);
@@ -53,19 +54,19 @@ fn live_once(heap: Global, given: u8, operations: u64, tally: &mut Tally) -> any
     let mut memory = Pile::cached(heap, part)?;
     memory.restart();
     memory.cut_after(Some(operations));
-    let a = b"A\0\0\0\0\0\0\0";
-    let b = b"B\0\0\0\0\0\0\0";
+    let a = *b"A\0\0\0\0\0\0\0";
+    let b = *b"B\0\0\0\0\0\0\0";
     let calls = [
         Call::Recover,
-        Call::File(Ask::Create(a)),
-        Call::File(Ask::Rename(a, b)),
-        Call::File(Ask::Create(a)),
-        Call::File(Ask::Remove(b)),
-        Call::File(Ask::Shorten(a, 0)),
+        Call::Change(Change::Create(a)),
+        Call::Change(Change::Rename { name: a, new: b }),
+        Call::Change(Change::Create(a)),
+        Call::Change(Change::Remove(b)),
+        Call::Change(Change::Shorten { name: a, length: 0 }),
         Call::Restart,
         Call::Recover,
-        Call::File(Ask::Read(a, 0)),
-        Call::File(Ask::Read(b, 0)),
+        Call::Read { name: a, offset: 0 },
+        Call::Read { name: b, offset: 0 },
     ];
     let mut buffer = [0; 4];
     // a format that is refused is no life, and there is nothing to tell

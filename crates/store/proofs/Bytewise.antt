@@ -1,40 +1,41 @@
 -- A file of the table as a read finds it, and its bytes as they are loaded. Assumes nothing.
-use Rattle.std.proofs.Common.{◌≡◌, ℕ, ◌+◌, ◌-◌, ◌*◌, ◌/◌, ◌%◌, ◌^◌, ◌<◌, ◌≤◌, min, Bool, true, false, cond, eqb, List, [], ◌∷◌, ◌++◌, length, take, drop, replicate, IsErrAnd, Some, None, Ok, Err, Result, sym, refl, ap, ◌∙◌, subst, inl, inr, ⊎_elim, arith}
+use Rattle.std.proofs.Common.{◌≡◌, ℕ, ◌+◌, ◌-◌, ◌*◌, ◌/◌, ◌%◌, ◌^◌, ◌<◌, ◌≤◌, min, Bool, true, false, cond, eqb, List, [], ◌∷◌, ◌++◌, length, take, drop, replicate, Err, sym, refl, ap, ◌∙◌, subst, inl, inr, ⊎_elim, arith}
 use borrow.Rule.Slice.PartMut.{put_mid}
 use lib.Bits.{bit_and}
 use Rattle.std.proofs.lemmas.Nat.{and_mask}
 use Rattle.std.proofs.lemmas.List.FromFn.{get_or-map-range_with_len, fill_by_all}
 use Rattle.std.proofs.lemmas.List.{append-nil, length-take, length-drop, length-take-le, get_or-take, get_or-drop, drop_at, drop_all}
 use Rattle.std.proofs.lemmas.Slice.{take-put_mid_below}
-use Rattle.std.proofs.lemmas.Bool.{cases_Bool, cond-true}
+use Rattle.std.proofs.lemmas.Bool.{cases_Bool}
 use Rattle.std.proofs.lemmas.Bool.Decides.{nat_tests}
-use Rattle.memory.specs.Bytes.{byte_of, bytes_of}
+use Rattle.memory.specs.Bytes.{byte_of}
 use Rattle.memory.specs.Model.{Model}
 use Rattle.memory.specs.Stores.{Words}
-use Rattle.layout.specs.Image.{Same, in_block, named, name_of, root_word, map_of, length_of, file_byte, file_bytes, files_of, table_of, GoodRoot}
-use Rattle.layout.specs.Log.{Clean, FirstBusy, HoldsFiles}
+use Rattle.layout.specs.Image.{Same, in_block, root_word, map_of, length_of, file_byte, file_bytes, table_of}
+use Rattle.layout.specs.Log.{Clean, HoldsFiles}
 use Rattle.layout.specs.Names.{well_formed}
-use Rattle.layout.specs.Table.{Table, Ask, read, done, refuse, find, answer, after, buffer, early}
+use Rattle.layout.specs.Table.{Table, Ask, read, done, on, answer, after, buffer}
+use Rattle.layout.specs.Packed.{RootIn}
+use Rattle.layout.specs.declared.root.Root.{Root}
 use Rattle.layout.specs.Touch.{blocks_for}
-use Rattle.images.proofs.Directory.{formed-named}
 use Rattle.images.proofs.Frame.{same-sound, same-holds_files}
 use Rattle.images.proofs.Holding.{holds-own}
 use Rattle.images.proofs.Lists.{map_same}
 use Rattle.images.proofs.Pieces.{slot-data}
-use Rattle.images.proofs.Slots.{find_none, find-slot, bytes-length}
-use Rattle.image_check.specs.Answers.{RefusedBy}
+use Rattle.images.proofs.Slots.{bytes-length}
 use Rattle.image_check.specs.Check.{MapGood}
 use Rattle.image_check.specs.Directory.{slot_at}
 use Rattle.image_check.specs.Reading.{Looked, LookedDown}
 use Rattle.image_check.specs.Size.{suits}
-use Rattle.image_check.specs.declared.image.Survey.{Survey}
 use Rattle.image_check.specs.declared.refusal.Refusal.{Refusal}
-use Rattle.image_check.specs.declared.refusal.Refusal.TheVariants.{PowerLost, BadImage, BadName, NoFile, NameTaken, TooManyFiles, TooLong, WrongSize}
+use Rattle.image_check.specs.declared.refusal.Refusal.TheVariants.{PowerLost}
 use Rattle.image_check.proofs.Looking.{looked-more, looked-down}
-use Rattle.image_check.proofs.Mapping.{root-fits, good-after}
-use Rattle.store.specs.Calls.{reply, refused_reply, Changed, FileCall, Opens}
-use Rattle.store.specs.Read.{byte_at, bytes_from, Quiet, Given}
-use Rattle.store.proofs.Calling.{Known, taken-call, looked-cut, answered-refused}
+use Rattle.image_check.proofs.Mapping.{root-fits}
+use Rattle.store.specs.Calls.{refused_reply, Changed, FileCall, FileOf, Opens}
+use Rattle.store.specs.Read.{GoodFile, byte_at, bytes_from, Quiet}
+use Rattle.store.specs.declared.file.OpenFile.{OpenFile}
+use Rattle.store.proofs.Calling.{Named, Known, in-order, taken-call, looked-cut, cut-call, refused-by}
+use Rattle.store.proofs.Finding.{found-bytes}
 use Rattle.store.proofs.Recovery.{looked-settled}
 
 -- a byte of the word that was loaded last
@@ -48,41 +49,43 @@ byte-loaded {m} {k} map at b place block word is_b is-place inside is_block look
     let is : word ≡ in_block m.seen (in_block m.seen map (at / 256)) (at % 256 / 8) = is_word ∙ ap k.seen from ∙ looked.seen (32 * in_block m.seen map (at / 256) + at % 256 / 8) inside in
     and_mask (word / 2 ^ (8 * (place % 8))) 8 ∙ ap (λ x. byte_of word x) byte ∙ ap (λ x. byte_of x (at % 8)) is
 
--- a byte of a file whose map is good, after loads
-module _ {m k : Model} (root map at : ℕ) (looked : Looked m k) (is : map ≡ map_of root) (within : at < length_of root) (low : map_of root < m.count / 32) (short : length_of root ≤ 8192) (good : MapGood (m.count / 32) m.seen (map_of root) (length_of root)) where
-  map-within : 32 * map_of root + at / 256 < m.count
-  map-within = omega arith
+-- The places of the loads of a byte: of its block in the map, and then of its word in the block.
+module _ {m : Model} (root : Root) (at map b : ℕ) (file : GoodFile m root) (within : at < root.length) (is_map : map ≡ root.map) (is_b : b ≡ at / 256) where
+  here : at / 256 < blocks_for root.length
+  here = omega (arith, within)
 
-  block_within : 32 * in_block m.seen (map_of root) (at / 256) + at % 256 / 8 < m.count
-  block_within =
-      let here : at / 256 < blocks_for (length_of root) = omega arith in
-      let d = good (at / 256) here in
-      omega arith
+  pub map_within : 32 * map + b < m.count
+  map_within = let small = file.map in let short = file.short in omega (arith, within)
 
-  held : in_block k.seen map (at / 256) ≡ in_block m.seen (map_of root) (at / 256)
-  held = ap (λ x. in_block k.seen x (at / 256)) is ∙ looked.seen (32 * map_of root + at / 256) map-within
+  pub block_within : 32 * in_block m.seen map (at / 256) + at % 256 / 8 < m.count
+  block_within = let d = file.good (at / 256) here in subst (λ x. 32 * in_block m.seen x (at / 256) + at % 256 / 8 < m.count) (sym is_map) (omega (arith, d))
 
-  pub map-inside : 32 * map + at / 256 < k.count
-  map-inside = let count = looked.fewer.same_count in omega (arith, map-within)
+  pub word_within : (block place : ℕ) → block ≡ m.seen (32 * map + b) → place ≡ at % 256 → 32 * block + place / 8 < m.count
+  word_within block place is_block is-place =
+      let held : block ≡ in_block m.seen map (at / 256) = is_block ∙ ap (λ x. m.seen (32 * map + x)) is_b in
+      let inside = block_within in omega arith
 
-  pub block_inside : 32 * in_block k.seen map (at / 256) + at % 256 / 8 < k.count
-  block_inside = let count = looked.fewer.same_count in omega (arith, block_within, held)
+-- a file that the memory holds, after loads
+module _ {m k : Model} (root : Root) (looked : Looked m k) (file : GoodFile m root) where
+  held : (j : ℕ) → j < blocks_for root.length → in_block k.seen root.map j ≡ in_block m.seen root.map j
+  held j lt = let low = file.map in let short = file.short in looked.seen (32 * root.map + j) (omega arith)
 
-  pub byte-same : byte_at k.seen map at ≡ byte_at m.seen (map_of root) at
-  byte-same =
-      ap (λ x. byte_of (in_block k.seen x (at % 256 / 8)) (at % 8)) held
-      ∙ ap (λ x. byte_of x (at % 8)) (looked.seen (32 * in_block m.seen (map_of root) (at / 256) + at % 256 / 8) block_within)
+  pub file-after : GoodFile k root
+  file-after =
+      let same = looked.fewer.same_count in
+      record {
+        small = omega (arith, file.small);
+        map = omega (arith, file.map);
+        short = file.short;
+        good = λ j lt. let is = held j lt in let d = file.good j lt in (omega arith, omega arith);
+      }
 
--- what the table answers to a read, by what it finds
-read_none : (t : Table) (name : List ℕ) (offset count : ℕ) → well_formed name ≡ true → find name t.files ≡ None → answer t (read name offset count) ≡ refuse 4
-read_none t name offset count formed is = simp (formed, is)
-
-read_some : (t : Table) (name old : List ℕ) (offset count : ℕ) → well_formed name ≡ true → find name t.files ≡ Some old → answer t (read name offset count) ≡ done (min count (length old - offset) ∷ [])
-read_some t name old offset count formed is = simp (formed, is)
-
-buffer-some : (t : Table) (name old : List ℕ) (offset count : ℕ) → well_formed name ≡ true → find name t.files ≡ Some old
-    → buffer t name offset count ≡ take count (drop offset old) ++ replicate (count - length (take count (drop offset old))) 0
-buffer-some t name old offset count formed is = simp (formed, is)
+  pub byte-same : (at : ℕ) → at < root.length → byte_at k.seen root.map at ≡ byte_at m.seen root.map at
+  byte-same at within =
+      let here : at / 256 < blocks_for root.length = omega arith in
+      let d = file.good (at / 256) here in
+      ap (λ x. byte_of (in_block k.seen x (at % 256 / 8)) (at % 8)) (held (at / 256) here)
+      ∙ ap (λ x. byte_of x (at % 8)) (looked.seen (32 * in_block m.seen root.map (at / 256) + at % 256 / 8) (omega arith))
 
 read-after : (t : Table) (name : List ℕ) (offset count : ℕ) → after t (read name offset count) ≡ t
 read-after t name offset count = go (eqb (answer t (read name offset count)).number 0)
@@ -90,9 +93,6 @@ read-after t name offset count = go (eqb (answer t (read name offset count)).num
     go : (b : Bool) → cond b (record { blocks = t.blocks; files = t.files }) t ≡ t
     go true = refl
     go false = refl
-
-pub read-early : (name : List ℕ) (offset count : ℕ) → well_formed name ≡ true → early (read name offset count) ≡ None
-read-early name offset count formed = cond-true (well_formed name) None (Some (refuse 3)) formed
 
 -- a read gives the file's bytes from the offset on, as many as there are and as are asked for
 part_length : (w : Words) (root offset count : ℕ) → length (take count (drop offset (file_bytes w root))) ≡ min count (length_of root - offset)
@@ -134,72 +134,59 @@ looked-changed {m} {n} blocks name offset count big size clean looked =
       others = λ s b j lt name _ has less. let d = slot-data blocks m.seen s b clean.sound lt name has in same (32 * b + j) (omega arith);
     }
 
--- once the image is opened, and a slot has the name
-module _ {m k : Model} (s : Survey) (name : List ℕ) (slot word root : ℕ) (b : Known m k s) (formed : well_formed name ≡ true) (bytes : bytes_of word ≡ name) (found : (slot < 16) × ((slot_at s.directory slot).name ≡ word)) (at : (slot_at s.directory slot).root ≡ root) where
-  is_name : name_of m.seen slot ≡ name
-  is_name = ap bytes_of (sym (b.lists.names slot found.0) ∙ found.1) ∙ bytes
+-- once the file is open, and its root word is read
+module _ {m k : Model} (name : List ℕ) (f : OpenFile) (root : Root) (b : Known m k name (FileOf m.seen name) f) (at : RootIn (slot_at f.directory f.slot).root root) where
+  abbrev word : ℕ
+  word = root_word m.seen f.slot
 
-  is-root : root_word m.seen slot ≡ root
-  is-root = sym (b.lists.roots slot found.0) ∙ at
+  map-is : root.map ≡ map_of word
+  map-is = at.map ∙ ap map_of (b.is.lists.roots f.slot f.inside)
 
-  here : named m.seen slot ≡ true
-  here = formed-named m.seen slot (subst (λ x. well_formed x ≡ true) (sym is_name) formed)
+  length-is : root.length ≡ length_of word
+  length-is = at.length ∙ ap length_of (b.is.lists.roots f.slot f.inside)
 
-  good-root : GoodRoot (m.count / 32) root
-  good-root = subst (GoodRoot (m.count / 32)) is-root (b.clean.sound.three slot found.0 here)
+  here-good : GoodFile m root
+  here-good =
+      let fits = root-fits (m.count / 32) word b.big (b.clean.sound.three f.slot f.inside b.is.named) in
+      record {
+        small = size_few m.count b.suitable;
+        map = subst (λ x. x < m.count / 32) (sym map-is) fits.0;
+        short = subst (λ x. x ≤ 8192) (sym length-is) fits.1;
+        good = subst (λ x. MapGood (m.count / 32) m.seen x root.length) (sym map-is) (subst (MapGood (m.count / 32) m.seen (map_of word)) (sym length-is) (λ j lt. b.clean.sound.four f.slot j f.inside b.is.named lt));
+      }
 
-  good-blocks : MapGood (m.count / 32) m.seen (map_of root) (length_of root)
-  good-blocks = subst (λ x. MapGood (m.count / 32) m.seen (map_of x) (length_of x)) is-root (λ j lt. b.clean.sound.four slot j found.0 here lt)
-
-  found-bytes : find name (files_of m.seen) ≡ Some (file_bytes m.seen root)
-  found-bytes = ap (λ x. find x (files_of m.seen)) (sym is_name) ∙ find-slot m.seen slot b.clean.sound.two found.0 here ∙ ap (λ x. Some (file_bytes m.seen x)) is-root
-
-  pub file-map : map_of root < k.count / 32
-  file-map = let fits = root-fits (m.count / 32) root b.big good-root in subst (λ x. map_of root < x / 32) (sym b.looked.fewer.same_count) fits.0
-
-  pub file-length : length_of root ≤ 8192
-  file-length = (root-fits (m.count / 32) root b.big good-root).1
-
-  pub file-small : k.count ≤ 32 * 4096
-  file-small = subst (λ x. x ≤ 32 * 4096) (sym b.looked.fewer.same_count) (size_few m.count b.suitable)
-
-  pub file-good : MapGood (k.count / 32) k.seen (map_of root) (length_of root)
-  file-good = subst (λ x. MapGood (x / 32) k.seen (map_of root) (length_of root)) (sym b.looked.fewer.same_count) (good-after {m = m} {n = k} (m.count / 32) root (map_of root) (length_of root) b.looked b.size b.big good-root refl refl good-blocks)
-
-  -- loads that follow find the same bytes
-  file-bytes : (offset given : ℕ) → given ≤ length_of root - offset → bytes_from k.seen (map_of root) offset given ≡ bytes_from m.seen (map_of root) offset given
-  file-bytes offset given le = map_same (λ j. byte_at k.seen (map_of root) (offset + j)) (λ j. byte_at m.seen (map_of root) (offset + j)) 0 given (λ j lt.
-      let fits = root-fits (m.count / 32) root b.big good-root in
-      byte-same {m = m} {k = k} root (map_of root) (offset + j) b.looked refl (omega arith) fits.0 fits.1 good-blocks)
+  pub open-good : GoodFile k root
+  open-good = file-after root b.looked here-good
 
   -- what the file gave, and then zeros
-  file-buffer : (offset count given : ℕ) → given ≡ min count (length_of root - offset) → bytes_from k.seen (map_of root) offset given ++ replicate (count - given) 0 ≡ buffer (table_of m.seen) name offset count
+  file-buffer : (offset count given : ℕ) → given ≡ min count (root.length - offset) → bytes_from k.seen root.map offset given ++ replicate (count - given) 0 ≡ buffer (table_of m.seen) name offset count
   file-buffer offset count given is =
-      let long = part_length m.seen root offset count in
-      let part = part_bytes m.seen root offset count given is in
-      let same = file-bytes offset given (omega arith) in
-      ap (λ xs. xs ++ replicate (count - given) 0) (same ∙ sym part) ∙ ap (λ x. take count (drop offset (file_bytes m.seen root)) ++ replicate (count - x) 0) (is ∙ sym long)
-      ∙ sym (buffer-some (table_of m.seen) name (file_bytes m.seen root) offset count formed found-bytes)
+      let is' : given ≡ min count (length_of word - offset) = subst (λ x. given ≡ min count (x - offset)) length-is is in
+      let same = map_same (λ j. byte_at k.seen root.map (offset + j)) (λ j. byte_at m.seen root.map (offset + j)) 0 given (λ j lt. byte-same root b.looked here-good (offset + j) (omega arith)) in
+      ap (λ xs. xs ++ replicate (count - given) 0) (same ∙ ap (λ x. bytes_from m.seen x offset given) map-is ∙ sym (part_bytes m.seen word offset count given is'))
+      ∙ ap (λ x. take count (drop offset (file_bytes m.seen word)) ++ replicate (count - x) 0) (is' ∙ sym (part_length m.seen word offset count))
+      ∙ sym (simp (b.formed, found-bytes name f b))
 
-  pub file-filled : (offset from given : ℕ) (old front tail : List ℕ) → given ≡ min (length old) (length_of root - offset) → from ≡ offset
-      → front ≡ bytes_from k.seen (map_of root) from (length (take given (put_mid given (length old - given) old tail)))
+  pub file-filled : (offset from given : ℕ) (old front tail : List ℕ) → given ≡ min (length old) (root.length - offset) → from ≡ offset
+      → front ≡ bytes_from k.seen root.map from (length (take given (put_mid given (length old - given) old tail)))
       → tail ≡ replicate (length (take (length old - given) (drop given old))) 0
       → front ++ drop given (put_mid given (length old - given) old tail) ≡ buffer (table_of m.seen) name offset (length old)
   file-filled offset from given old front tail is start loaded cleared =
       let le : given ≤ length old = omega arith in
-      let whole : front ≡ bytes_from k.seen (map_of root) offset given = loaded ∙ ap (bytes_from k.seen (map_of root) from) (front_length given old tail le) ∙ ap (λ x. bytes_from k.seen (map_of root) x given) start in
+      let whole : front ≡ bytes_from k.seen root.map offset given = loaded ∙ ap (bytes_from k.seen root.map from) (front_length given old tail le) ∙ ap (λ x. bytes_from k.seen root.map x given) start in
       ap (λ xs. xs ++ drop given (put_mid given (length old - given) old tail)) whole
-      ∙ ap (λ xs. bytes_from k.seen (map_of root) offset given ++ xs) (tail-zeros given old tail le cleared)
+      ∙ ap (λ xs. bytes_from k.seen root.map offset given ++ xs) (tail-zeros given old tail le cleared)
       ∙ file-buffer offset (length old) given is
 
-  file-answer : (offset count given : ℕ) → given ≡ min count (length_of root - offset) → answer (table_of m.seen) (read name offset count) ≡ done (given ∷ [])
+  file-answer : (offset count given : ℕ) → given ≡ min count (root.length - offset) → answer (table_of m.seen) (read name offset count) ≡ done (given ∷ [])
   file-answer offset count given is =
-      read_some (table_of m.seen) name (file_bytes m.seen root) offset count formed found-bytes ∙ ap (λ x. done (min count (x - offset) ∷ [])) (bytes-length m.seen root) ∙ ap (λ x. done (x ∷ [])) (sym is)
+      let says : answer (table_of m.seen) (read name offset count) ≡ done (min count (length (file_bytes m.seen word) - offset) ∷ []) = simp (b.formed, found-bytes name f b) in
+      says ∙ ap (λ x. done (min count (x - offset) ∷ [])) (bytes-length m.seen word ∙ sym length-is) ∙ ap (λ x. done (x ∷ [])) (sym is)
 
-  pub file-done : {n : Model} (offset count given : ℕ) → given ≡ min count (length_of root - offset) → Looked k n → FileCall m (read name offset count) (done (given ∷ [])) n
+  pub file-done : {n : Model} (offset count given : ℕ) → given ≡ min count (root.length - offset) → Looked k n → FileCall m (read name offset count) (done (given ∷ [])) n
   file-done {n} offset count given is later =
       let looked = looked-more b.looked later in
-      taken-call (read name offset count) (done (given ∷ [])) (read-early name offset count formed) b.suitable (inr (inr (record {
+      taken-call (read name offset count) (done (given ∷ [])) (in-order (read name offset count) refl b.formed) b.suitable (inr (inr (record {
         was-up = b.looked.was-up;
         clean = b.clean;
         reply = sym (file-answer offset count given is);
@@ -207,33 +194,17 @@ module _ {m k : Model} (s : Survey) (name : List ℕ) (slot word root : ℕ) (b 
         done = λ _. looked-changed (m.count / 32) name offset count b.big b.size b.clean looked;
       })))
 
--- no slot has the name
-pub file-none : {m k : Model} (s : Survey) (name : List ℕ) (offset count word : ℕ) → Known m k s → well_formed name ≡ true → bytes_of word ≡ name → ((u : ℕ) → u < 16 → bytes_of ((slot_at s.directory u).name) ≡ bytes_of word → ⊥) → FileCall m (read name offset count) (refuse 4) k
-file-none {m} {k} s name offset count word b formed bytes none =
-    answered-refused s (read name offset count) NoFile b (read-early name offset count formed)
-    (read_none (table_of m.seen) name offset count formed (find_none m.seen name (λ u lt _ e. none u lt (ap bytes_of (b.lists.names u lt) ∙ e ∙ sym bytes))))
-
 -- power was lost in the loads of the file
-pub file-cut : {X : Type 0} {m k : Model} (n : Model) (s : Survey) (a : Ask) (carries : X → List ℕ) (e : Refusal) (r : Result X Refusal) → IsErrAnd r (λ y. y ≡ e) → e ≡ PowerLost → early a ≡ None → Known m k s → LookedDown k n → FileCall m a (reply carries r) n
-file-cut n s a carries e (Ok x) h lost none b down = absurd h
-file-cut {X} {m} {k} n s a carries e (Err y) h lost none b down = subst (λ z. FileCall m a (refused_reply z) n) (sym (h ∙ lost)) (
-    taken-call a (refuse 1) none b.suitable (inl (refl, looked-cut (m.count / 32) m n a b.big b.size (looked-down b.looked down))))
+pub file-cut : {X : Type 0} {m k n : Model} {P : X → Type 0} {x : X} (a : Ask) (e : Refusal) → e ≡ PowerLost → Named a → Known m k (on a) P x → LookedDown k n → FileCall m a (refused_reply e) n
+file-cut {X} {m} {k} {n} a e lost asks b down = cut-call a e lost asks b (looked-cut (m.count / 32) m n a b.big b.size (looked-down b.looked down))
 
--- the check of the image stores nothing
-pub opens-quiet : {m : Model} (n : Model) (e : Refusal) → Opens m (Err e) n → Quiet m n
-opens-quiet {m} n e opens = ⊎_elim (λ t. go e (opens.taken t)) (λ f. inl (opens.refused f).1) (cases_Bool (suits m.count))
+-- opening the file stores nothing
+pub opens-quiet : {X : Type 0} {m n : Model} {name : List ℕ} {P : X → Type 0} {missing : Type 0} (e : Refusal) → Opens m name P missing (Err e) n → Quiet m n
+opens-quiet {X} {m} {n} {name} e opens = ⊎_elim sized (λ f. inl (opens.wrong f).1) (cases_Bool (well_formed name))
   where
-    go : (e : Refusal) → RefusedBy e (LookedDown m n) (λ k. Looked m n × FirstBusy k (m.count / 32) m.seen) → Quiet m n
-    go PowerLost h = inr (inr h)
-    go (BadImage j) h = inr (inl h.0)
-    go BadName h = absurd h
-    go NoFile h = absurd h
-    go NameTaken h = absurd h
-    go TooManyFiles h = absurd h
-    go TooLong h = absurd h
-    go WrongSize h = absurd h
-
--- a refused read says nothing of the buffer yet
-pub given-exit : (m : Model) (name : List ℕ) (offset : ℕ) (e : Refusal) (r : Result ℕ Refusal) (old new : List ℕ) → IsErrAnd r (λ y. y ≡ e) → Given m name offset r old new
-given-exit m name offset e (Ok x) old new h = absurd h
-given-exit m name offset e (Err y) old new h = tt
+    sized : well_formed name ≡ true → Quiet m n
+    sized formed =
+        ⊎_elim
+        (λ t. ⊎_elim (refused-by _ (λ _. Quiet m n) (λ down. inr (inr down)) (λ _ bad. inr (inl bad.0)) e) (λ h. inr (inl h.1)) (opens.taken formed t))
+        (λ f. inl (opens.size formed f).1)
+        (cases_Bool (suits m.count))

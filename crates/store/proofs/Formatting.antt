@@ -169,16 +169,13 @@ module _ (blocks : ℕ) (m : Model) (enough : 96 ≤ m.count) where
             seen = λ i lt. whole.made.seen i lt last.up ∙ put_all blocks m.seen i;
           }
 
-pub answers-cut : {m n : Model} (r : Result Unit Refusal) → suits m.count ≡ true → r ≡ Err PowerLost → FormatCut (m.count / 32) m n → Formats m r n
-answers-cut {m} r t e cut = record { refused = λ f. absurd (up-down (suits m.count) t f); taken = λ _. inr (e, cut) }
-
-pub answers-done : {m n : Model} (r : Result Unit Refusal) → suits m.count ≡ true → r ≡ Ok tt → Formatted (m.count / 32) m n → Formats m r n
-answers-done {m} r t e done = record { refused = λ f. absurd (up-down (suits m.count) t f); taken = λ _. inl (e, done) }
+pub answers-cut : {m n : Model} → suits m.count ≡ true → FormatCut (m.count / 32) m n → Formats m (Err PowerLost) n
+answers-cut {m} t cut = record { refused = λ f. absurd (up-down (suits m.count) t f); taken = λ _. inr (refl, cut) }
 
 pub answers-last : {m l : Model} (n : Model) (blocks : ℕ) (r : Result Unit Refusal) → suits m.count ≡ true → blocks ≡ m.count / 32
     → Persisted l (word 0 blocks ∷ []) r n
     → (CutIn l (word 0 blocks ∷ []) n → FormatCut blocks m n)
     → (AllMade l (word 0 blocks ∷ []) n → Settled n → Formatted blocks m n)
     → Formats m r n
-answers-last {m} n blocks (Ok x) t e h cut done = answers-done (Ok x) t refl (subst (λ b. Formatted b m n) e (done h.0 h.1))
-answers-last {m} n blocks (Err f) t e h cut done = answers-cut (Err f) t (ap Err h.1) (subst (λ b. FormatCut b m n) e (cut h.0))
+answers-last {m} n blocks (Ok x) t e h cut done = record { refused = λ f. absurd (up-down (suits m.count) t f); taken = λ _. inl (refl, subst (λ b. Formatted b m n) e (done h.0 h.1)) }
+answers-last {m} n blocks (Err f) t e h cut done = subst (λ y. Formats m (Err y) n) (sym h.1) (answers-cut t (subst (λ b. FormatCut b m n) e (cut h.0)))

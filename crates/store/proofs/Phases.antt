@@ -1,5 +1,5 @@
 -- A phase's steps. Assumes nothing.
-use Rattle.std.proofs.Common.{◌≡◌, ℕ, zero, suc, ◌+◌, ◌-◌, ◌<◌, ◌≤◌, true, false, List, [], ◌∷◌, ◌++◌, map, length, get_or, take, drop, IsErrAnd, Ok, Err, Result, sym, refl, ap, ◌∙◌, subst, arith}
+use Rattle.std.proofs.Common.{◌≡◌, ℕ, zero, suc, ◌+◌, ◌-◌, ◌<◌, ◌≤◌, true, false, List, [], ◌∷◌, ◌++◌, map, length, get_or, take, drop, Ok, Err, Result, sym, refl, ap, ◌∙◌, subst, arith}
 use Rattle.std.proofs.lemmas.List.FromFn.{length-map-range_with_len, get_or-map-range_with_len, take-map-range_with_len, map-range_with_len_more}
 use Rattle.std.proofs.lemmas.List.{append-nil, take-append-drop, take_more}
 use Rattle.std.specs.List.{range_with_len}
@@ -10,9 +10,8 @@ use Rattle.memory.specs.declared.fault.Fault.TheVariants.{Down, Outside}
 use Rattle.memory.specs.declared.word.Word.{Word}
 use Rattle.memory.proofs.Making.{made_none, made_one, made-append, made-cut, made-flushed}
 use Rattle.image_check.specs.declared.refusal.Refusal.{Refusal}
-use Rattle.image_check.specs.declared.refusal.Refusal.TheVariants.{PowerLost}
 use Rattle.memory.proofs.Putting.{up-down, one-other}
-use Rattle.store.specs.Phase.{Within, zeros, copies, AllMade, CutIn, Storing, Persisted}
+use Rattle.store.specs.Phase.{Within, zeros, copies, AllMade, CutIn, Persisted}
 use Rattle.image_check.specs.Reading.{Looked, LookedDown}
 
 pub store-done : {m n : Model} (i v : ℕ) → Stored m i v (Ok tt) n → AllMade m (word i v ∷ []) n
@@ -39,9 +38,6 @@ pub record SoFar (m : Model) (ss : List Word) (n : Model) : Type 0 where
   pub made : Made m ss n
   pub was-up : n.up ≡ true → m.up ≡ true
   pub still : m.up ≡ false → n ≡ m
-
-pub so-far-none : (m : Model) → SoFar m [] m
-so-far-none m = record { made = made_none m; was-up = λ up. up; still = λ _. refl }
 
 pub so_far : {m n : Model} {ss : List Word} → AllMade m ss n → SoFar m ss n
 so_far {m} all = record { made = all.made; was-up = λ _. all.was-up; still = λ down. absurd (up-down m.up all.was-up down) }
@@ -98,17 +94,6 @@ ends {m} {k} n {ss} (Err e) before h = (subst (λ xs. CutIn m xs n) (append-nil 
 pub ending : {m k : Model} {ss : List Word} → AllMade m ss k → (n : Model) (r : Result Unit Refusal) → Persisted k [] r n → Persisted m ss r n
 ending made n r h = ends n r (so_far made) h
 
--- the exit of a `?` after power was lost
-pub exit-is : (e : Refusal) (r : Result Unit Refusal) → IsErrAnd r (λ y. y ≡ e) → e ≡ PowerLost → r ≡ Err PowerLost
-exit-is e (Ok x) h p = absurd h
-exit-is e (Err y) h p = ap Err (h ∙ p)
-
-pub storing-exit : {m : Model} (n : Model) {ss : List Word} (e : Refusal) (r : Result Unit Refusal) → IsErrAnd r (λ y. y ≡ e) → e ≡ PowerLost → CutIn m ss n → Storing m ss r n
-storing-exit {m} n {ss} e r h p cut = subst (λ x. Storing m ss x n) (sym (exit-is e r h p)) (cut, refl)
-
-pub persisted-exit : {m : Model} (n : Model) {ss : List Word} (e : Refusal) (r : Result Unit Refusal) → IsErrAnd r (λ y. y ≡ e) → e ≡ PowerLost → CutIn m ss n → Persisted m ss r n
-persisted-exit {m} n {ss} e r h p cut = subst (λ x. Persisted m ss x n) (sym (exit-is e r h p)) (cut, refl)
-
 -- a place of the phase lies within the memory
 pub within-at : (n : ℕ) (ss : List Word) (k : ℕ) (d : Word) → Within n ss → k < length ss → (get_or ss k d).at < n
 within-at n [] k d h lt = absurd (none lt)
@@ -124,9 +109,6 @@ cut_at {m} {o} {n} ss k lt before cut = subst (λ xs. CutIn m xs n) whole (cut_s
   where
     whole : (take k ss ++ get_or ss k (word 0 0) ∷ []) ++ drop (k + 1) ss ≡ ss
     whole = ap (λ xs. xs ++ drop (k + 1) ss) (sym (take_more ss k (word 0 0) lt)) ∙ take-append-drop (k + 1) ss
-
-pub zeros-none : (first end : ℕ) → end ≤ first → zeros first (end - first) ≡ []
-zeros-none first end le = let none : end - first ≡ 0 = omega arith in ap (zeros first) none
 
 -- one more zero of a run
 pub zeros-more : (first at : ℕ) → first ≤ at → zeros first (at - first) ++ word at 0 ∷ [] ≡ zeros first (at + 1 - first)

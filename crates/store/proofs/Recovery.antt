@@ -1,73 +1,61 @@
 -- What the phases of recovery come to. Assumes nothing.
-use Rattle.std.proofs.Common.{◌≡◌, ℕ, ◌+◌, ◌*◌, ◌<◌, ◌≤◌, Bool, true, false, cond, not, ◌&&◌, ◌||◌, eqb, ◌⊎◌, List, [], ◌∷◌, ◌++◌, map, Ok, sym, refl, ap, ◌∙◌, subst, inl, inr, ⊎_elim, arith}
+use Rattle.std.proofs.Common.{◌≡◌, ℕ, ◌+◌, ◌*◌, ◌<◌, ◌≤◌, Bool, true, false, cond, List, [], ◌∷◌, ◌++◌, Some, None, Ok, Option, sym, refl, ap, ◌∙◌, subst, inl, inr, ⊎_elim, arith}
 use Rattle.std.proofs.lemmas.Bool.{cases_Bool, ne_eqb}
 use Rattle.std.proofs.lemmas.Bool.Decides.{nat_tests}
-use Rattle.std.specs.List.{range_with_len}
 use Rattle.memory.specs.Model.{Model, In, Settled}
 use Rattle.memory.specs.Stores.{Words, word, put, values_at}
 use Rattle.memory.specs.declared.word.Word.{Word}
 use Rattle.memory.proofs.Putting.{up-down, in_either, in_left, in_right}
-use Rattle.layout.specs.Image.{Same, root_word, named, Rule4}
+use Rattle.layout.specs.Image.{Same, named, Rule4}
 use Rattle.layout.specs.Log.{state, log_slot, no_piece, piece_of, GoodPiece, putting_back, undoing, undone, puts_back, recovered, Sound, LeadsToFiles}
 use Rattle.layout.specs.Table.{Table}
 use Rattle.images.proofs.Frame.{same-sound, same-holds_files}
-use Rattle.images.proofs.Pieces.{file-data, putting_back-same, undoing-same}
+use Rattle.images.proofs.Lists.{map_same}
+use Rattle.images.proofs.Pieces.{file-data, undoing-same}
 use Rattle.images.proofs.Recovering.{Torn, undone-same, recovered-idle, recovered-clean, recovered-same, leads_to_files-same, leads_to_files-undoing, leads_to_files-undone, leads_to_files-freeing}
 use Rattle.image_check.specs.Reading.{Looked, LookedDown}
 use Rattle.store.specs.Phase.{Drawn, AllMade, CutIn}
-use Rattle.layout.specs.Packed.{state_number}
-use Rattle.store.specs.LogEntry.{Tells}
+use Rattle.layout.specs.declared.log.Piece.{Piece}
+use Rattle.store.specs.LogEntry.{PieceIn, Tells, putting}
 use Rattle.store.specs.Recover.{RecoverDone, RecoverCut, Puttable, taken_back, TakenBack}
 use Rattle.store.specs.declared.log_entry.LogEntry.{LogEntry}
 use Rattle.store.proofs.Phases.{put-copies, looked-made, done_more, so_far, cut-more, cut-looked}
 
 -- a piece of a sound image can be put back
-pub good-puttable : (n count : ℕ) (w : Words) (x : ℕ) → 32 * n ≤ count → Rule4 n w → log_slot w < 16 → named w (log_slot w) ≡ true → GoodPiece w x → Puttable count x
-good-puttable n count w x size four lt name (inl none) = inl none
-good-puttable n count w x size four lt name (inr good) =
+pub good-puttable : (n count : ℕ) (w : Words) (x : ℕ) (p : Option Piece) → 32 * n ≤ count → Rule4 n w → log_slot w < 16 → named w (log_slot w) ≡ true → PieceIn x p → GoodPiece w x → Puttable count p
+good-puttable n count w x None size four lt name is good = tt
+good-puttable n count w x (Some p) size four lt name is (inl none) = absurd (up-down (no_piece x) none is.0)
+good-puttable n count w x (Some p) size four lt name is (inr good) =
     let d = (file-data n w (log_slot w) (piece_of x).block four lt name good.3).0 in
-    inr (d.0, good.1, good.2, omega (arith, d.1, size))
+    (omega (arith, d.0), omega (arith, good.1), omega (arith, good.2), omega (arith, d.1, size))
 
 -- words before block 3 stay when a piece is put back
-put-back-low : (count : ℕ) (w u : Words) (x old i : ℕ) → Puttable count x → i < 96 → put (putting_back w x old) u i ≡ u i
-put-back-low count w u x old i can lt = go (no_piece x) refl can
-  where
-    to : ℕ
-    to = 32 * (piece_of x).block + (piece_of x).first
-
-    go : (b : Bool) → no_piece x ≡ b → Puttable count x → put (cond b [] (map (λ j. word (to + j) (w (old + j))) (range_with_len 0 (piece_of x).count))) u i ≡ u i
-    go true e can = refl
-    go false e (inl none) = absurd (up-down (no_piece x) none e)
-    go false e (inr p) = put-copies (λ j. w (old + j)) to 0 (piece_of x).count u i (omega (arith, p.0))
-
-short : (count x : ℕ) → Puttable count x → (no_piece x ≡ true) ⊎ ((piece_of x).count ≤ 16)
-short count x (inl none) = inl none
-short count x (inr p) = inr p.1
+put-back-low : (count : ℕ) (w u : Words) (p : Option Piece) (old i : ℕ) → Puttable count p → i < 96 → put (putting w p old) u i ≡ u i
+put-back-low count w u None old i can lt = refl
+put-back-low count w u (Some p) old i can lt = put-copies (λ j. w (old + j)) (32 * p.block + p.first) 0 p.count u i (omega (arith, can.0))
 
 -- putting one piece back leaves the old words of the other alone
-pub second-piece : {m k : Model} (x y old : ℕ) → 96 ≤ m.count → Puttable m.count x → Puttable m.count y → old + 16 ≤ 64 → AllMade m (putting_back m.seen x 32) k → putting_back k.seen y old ≡ putting_back m.seen y old
-second-piece {m} {k} x y old size first second log made =
-    putting_back-same m.seen k.seen y old (short m.count y second)
-    (λ j lt. made.made.seen (old + j) (omega arith) made.up ∙ put-back-low m.count m.seen m.seen x 32 (old + j) first (omega arith))
+pub second-piece : {m k : Model} (p q : Option Piece) (old : ℕ) → 96 ≤ m.count → Puttable m.count p → Puttable m.count q → old + 16 ≤ 64 → AllMade m (putting m.seen p 32) k → putting k.seen q old ≡ putting m.seen q old
+second-piece p None old size first second log made = refl
+second-piece {m} {k} p (Some q) old size first second log made =
+    let to = 32 * q.block + q.first in
+    map_same (λ j. word (to + j) (k.seen (old + j))) (λ j. word (to + j) (m.seen (old + j))) 0 q.count (λ j lt.
+    ap (word (to + j)) (made.made.seen (old + j) (omega arith) made.up ∙ put-back-low m.count m.seen m.seen p 32 (old + j) first (omega arith)))
+
+-- what a piece puts back is what its word says
+pub piece-words : (w : Words) (x old : ℕ) (p : Option Piece) → PieceIn x p → putting w p old ≡ putting_back w x old
+piece-words w x old None is = cc
+piece-words w x old (Some p) is = simp (is.0, is.1, is.2, is.3)
 
 -- what the entry tells
-pub tells-undone : (w : Words) (e : LogEntry) (root : ℕ) → Tells w e → root ≡ root_word w (log_slot w) → eqb (state_number e.state) 1 || (eqb (state_number e.state) 2 && e.mark.follow && eqb root e.old) ≡ undone w
-tells-undone w e root h r = let s = h.state in let f = h.follow in let o = h.old in cc
-
-pub tells-pieces : (w : Words) (e : LogEntry) → Tells w e → putting_back w e.start 32 ++ putting_back w e.end 48 ≡ undoing w
-tells-pieces w e h = let s = h.start in let l = h.last in cc
+pub tells-pieces : (w : Words) (e : LogEntry) → Tells w e → putting w e.start 32 ++ putting w e.end 48 ≡ undoing w
+tells-pieces w e h = let s = piece-words w (w 11) 32 e.start h.start in let l = piece-words w (w 12) 48 e.end h.last in cc
 
 pub taken_back-undone : (w : Words) → undone w ≡ true → taken_back w ≡ undoing w
 taken_back-undone w e = ap (λ (b : Bool). cond b (undoing w) []) e
 
 pub none-back : (w : Words) → undone w ≡ false → taken_back w ≡ []
 none-back w e = ap (λ (b : Bool). cond b (undoing w) []) e
-
-pub puts-back : (w : Words) (e : LogEntry) → Tells w e → undone w ≡ true → not (no_piece e.start && no_piece e.end) ≡ puts_back w
-puts-back w e h u = let s = h.start in let l = h.last in cc
-
-pub puts_none : (w : Words) → undone w ≡ false → false ≡ puts_back w
-puts_none w u = cc
 
 -- loads leave a settled memory settled
 pub looked-settled : {m n : Model} → Looked m n → Settled m → Settled n
@@ -127,7 +115,7 @@ module _ (blocks : ℕ) (m : Model) (big : 6 ≤ blocks) (size : 32 * blocks ≤
   -- with the log free, nothing is stored
   pub idle-done : {n : Model} → Looked m n → Sound blocks m.seen → state m.seen ≡ 0 → RecoverDone blocks m false n
   idle-done {n} looked sound idle =
-      done-from false looked.was-up looked.up looked.fewer.same_count sound (puts_none m.seen (kept idle))
+      done-from false looked.was-up looked.up looked.fewer.same_count sound ((let none = kept idle in cc))
       (λ i lt. looked.seen i lt ∙ ap (λ (w : Words). w i) (sym (recovered-idle m.seen idle)))
       (looked-settled looked)
     where

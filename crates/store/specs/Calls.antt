@@ -5,15 +5,16 @@ use Rattle.memory.specs.Stores.{Words}
 use Rattle.layout.specs.Image.{in_block, named, name_of, slot_blocks, table_of}
 use Rattle.layout.specs.Lists.{member}
 use Rattle.layout.specs.Log.{Clean, FirstBusy, HoldsFiles, LeadsToFiles}
+use Rattle.layout.specs.Names.{well_formed}
 use Rattle.layout.specs.Table.{Table, Ask, Reply, done, refuse, early, on, answer, after}
 use Rattle.image_check.specs.Answers.{RefusedBy, rule_number}
 use Rattle.image_check.specs.Directory.{Lists}
 use Rattle.image_check.specs.Reading.{Looked, LookedDown}
 use Rattle.image_check.specs.Size.{suits}
-use Rattle.image_check.specs.declared.image.Survey.{Survey}
 use Rattle.image_check.specs.declared.refusal.Refusal.{Refusal}
 use Rattle.image_check.specs.declared.refusal.Refusal.TheVariants.{PowerLost, BadImage, BadName, NoFile, NameTaken, TooManyFiles, TooLong, WrongSize}
 use Rattle.store.specs.Phase.{Drawn}
+use Rattle.store.specs.declared.file.OpenFile.{OpenFile}
 
 -- the reply that tells of a broken rule
 abbrev pub broken : ℕ → Reply
@@ -78,11 +79,20 @@ pub record SlotCall (m : Model) (a : Ask) (r : Reply) (n : Model) : Type 0 where
   pub settled : r.number ≡ 0 → Settled n
   pub only : r.number ≡ 0 → (i : ℕ) → i < m.count → (i < 64) ⊎ (96 ≤ i) → n.seen i ≡ m.seen i
 
--- The survey of an image that a file call takes; or power was lost, or a rule fails.
-abbrev pub Opened : ℕ → Model → Result Survey Refusal → Model → Type 0
-Opened blocks m (Ok s) n = Looked m n × Clean blocks m.seen × Lists m.seen s.directory
-Opened blocks m (Err e) n = RefusedBy e (LookedDown m n) (λ k. Looked m n × FirstBusy k blocks m.seen)
+-- the file of that name in an image: the words of the slots, and the slot that has the name
+pub record FileOf (w : Words) (name : List ℕ) (f : OpenFile) : Type 0 where
+  pub lists : Lists w f.directory
+  pub named : named w f.slot ≡ true
+  pub is : name_of w f.slot ≡ name
 
-pub record Opens (m : Model) (r : Result Survey Refusal) (n : Model) : Type 0 where
-  pub refused : suits m.count ≡ false → (r ≡ Err WrongSize) × (n ≡ m)
-  pub taken : suits m.count ≡ true → Opened (m.count / 32) m r n
+-- What a call finds in the image, of which P holds; or power was lost, or a rule fails, or no file has the name.
+abbrev pub Opened : {X : Type 0} → ℕ → Model → (X → Type 0) → Type 0 → Result X Refusal → Model → Type 0
+Opened blocks m P missing (Ok x) n = Looked m n × Clean blocks m.seen × P x
+Opened blocks m P missing (Err e) n =
+    RefusedBy e (LookedDown m n) (λ k. Looked m n × FirstBusy k blocks m.seen) ⊎ ((e ≡ NoFile) × Looked m n × Clean blocks m.seen × missing)
+
+-- What a call on a name finds: first what the name calls for, then the size of the memory, then the image.
+pub record Opens {X : Type 0} (m : Model) (name : List ℕ) (P : X → Type 0) (missing : Type 0) (r : Result X Refusal) (n : Model) : Type 0 where
+  pub wrong : well_formed name ≡ false → (r ≡ Err BadName) × (n ≡ m)
+  pub size : well_formed name ≡ true → suits m.count ≡ false → (r ≡ Err WrongSize) × (n ≡ m)
+  pub taken : well_formed name ≡ true → suits m.count ≡ true → Opened (m.count / 32) m P missing r n

@@ -1,4 +1,5 @@
 pub mod Calls
+pub mod Change
 pub mod Format
 pub mod LogEntry
 pub mod Moved

@@ -1,18 +1,27 @@
 -- The log entry as code holds it.
-use Rattle.std.specs.Prelude.{◌≡◌, ℕ, ◌+◌, ◌<◌, List, slice_index}
+use Rattle.std.specs.Prelude.{◌≡◌, ℕ, ◌+◌, ◌*◌, true, false, List, [], Option, Some, None, MatchOption}
 use Rattle.memory.specs.Stores.{Words}
-use Rattle.layout.specs.Log.{state, log_slot, follows, old_root}
+use Rattle.memory.specs.declared.word.Word.{Word}
+use Rattle.layout.specs.Log.{state, log_slot, follows, old_root, no_piece, piece_of}
 use Rattle.layout.specs.Packed.{state_number}
+use Rattle.layout.specs.declared.log.Piece.{Piece}
+use Rattle.store.specs.Phase.{copies}
 use Rattle.store.specs.declared.log_entry.LogEntry.{LogEntry}
 
--- the five words from word 8 on
-abbrev pub EntryWords : Words → List ℕ → Type 0
-EntryWords w xs = (k : ℕ) → k < 5 → slice_index xs k ≡ w (8 + k)
+-- the piece that a word tells of, or none
+abbrev pub PieceIn : ℕ → Option Piece → Type 0
+PieceIn x piece = MatchOption piece (no_piece x ≡ true) (λ p. (no_piece x ≡ false) × (p.block ≡ (piece_of x).block) × (p.first ≡ (piece_of x).first) × (p.count ≡ (piece_of x).count))
 
+-- the log entry of an image
 pub record Tells (w : Words) (e : LogEntry) : Type 0 where
   pub state : state_number e.state ≡ state w
   pub slot : e.mark.slot ≡ log_slot w
   pub follow : e.mark.follow ≡ follows w
   pub old : e.old ≡ old_root w
-  pub start : e.start ≡ w 11
-  pub last : e.end ≡ w 12
+  pub start : PieceIn (w 11) e.start
+  pub last : PieceIn (w 12) e.end
+
+-- the stores that put a piece back from where the log keeps its old words
+abbrev pub putting : Words → Option Piece → ℕ → List Word
+putting w None old = []
+putting w (Some p) old = copies w old (32 * p.block + p.first) p.count

@@ -1,13 +1,22 @@
 -- What a read leaves in the memory and in its buffer.
-use Rattle.std.specs.Prelude.{◌≡◌, ℕ, ◌+◌, ◌/◌, ◌%◌, ◌⊎◌, List, map, length, replicate, Ok, Err, Result}
+use Rattle.std.specs.Prelude.{◌≡◌, ℕ, ◌+◌, ◌*◌, ◌/◌, ◌%◌, ◌<◌, ◌≤◌, ◌⊎◌, List, map, length, replicate, Ok, Err, Result}
 use Rattle.std.specs.List.{range_with_len}
 use Rattle.memory.specs.Bytes.{byte_of}
 use Rattle.memory.specs.Model.{Model}
 use Rattle.memory.specs.Stores.{Words}
 use Rattle.layout.specs.Image.{in_block, table_of}
 use Rattle.layout.specs.Table.{buffer}
+use Rattle.layout.specs.declared.root.Root.{Root}
+use Rattle.image_check.specs.Check.{MapGood}
 use Rattle.image_check.specs.Reading.{Looked, LookedDown}
 use Rattle.image_check.specs.declared.refusal.Refusal.{Refusal}
+
+-- a root whose file the memory holds: its map and its blocks lie inside
+pub record GoodFile (m : Model) (root : Root) : Type 0 where
+  pub small : m.count ≤ 32 * 4096
+  pub map : root.map < m.count / 32
+  pub short : root.length ≤ 8192
+  pub good : MapGood (m.count / 32) m.seen root.map root.length
 
 -- byte k of the file whose map is block b
 abbrev pub byte_at : Words → ℕ → ℕ → ℕ

@@ -1,15 +1,18 @@
 -- What recovery does to a memory of so many blocks.
-use Rattle.std.specs.Prelude.{◌≡◌, ℕ, ◌+◌, ◌*◌, ◌/◌, ◌<◌, ◌≤◌, Bool, true, false, cond, ◌⊎◌, List, [], Ok, Err, Result}
+use Rattle.std.specs.Prelude.{◌≡◌, ℕ, ◌+◌, ◌*◌, ◌/◌, ◌<◌, ◌≤◌, Bool, true, false, cond, List, [], Option, Some, None, Ok, Err, Result}
 use Rattle.memory.specs.Model.{Model, Settled}
 use Rattle.memory.specs.Stores.{Words}
 use Rattle.memory.specs.declared.word.Word.{Word}
-use Rattle.layout.specs.Log.{no_piece, piece_of, undoing, undone, puts_back, recovered, Sound, Clean, FirstBroken, HoldsFiles, LeadsToFiles}
+use Rattle.layout.specs.Log.{undoing, undone, puts_back, recovered, Sound, Clean, FirstBroken, HoldsFiles, LeadsToFiles}
 use Rattle.layout.specs.Table.{Table}
+use Rattle.layout.specs.declared.log.Piece.{Piece}
 use Rattle.image_check.specs.Answers.{RefusedBy}
 use Rattle.image_check.specs.Reading.{Looked}
 use Rattle.image_check.specs.Size.{suits}
 use Rattle.image_check.specs.declared.refusal.Refusal.{Refusal}
 use Rattle.image_check.specs.declared.refusal.Refusal.TheVariants.{PowerLost, WrongSize}
+use Rattle.store.specs.LogEntry.{Tells}
+use Rattle.store.specs.declared.log_entry.LogEntry.{LogEntry}
 use Rattle.store.specs.Phase.{Drawn, AllMade, CutIn}
 
 -- Recovery is done: the image was sound and is recovered, the log is free, and the image holds the table that it led to.
@@ -44,8 +47,17 @@ pub record Recovers (m : Model) (r : Result Bool Refusal) (n : Model) : Type 0 w
 -- The steps of recovery.
 
 -- a piece that can be put back: none, or words of a block past the first three that end inside it
-abbrev pub Puttable : ℕ → ℕ → Type 0
-Puttable count x = (no_piece x ≡ true) ⊎ (let p = piece_of x in (3 ≤ p.block) × (p.count ≤ 16) × (p.first + p.count ≤ 32) × (32 * p.block + 32 ≤ count))
+abbrev pub Puttable : ℕ → Option Piece → Type 0
+Puttable count None = Unit {0}
+Puttable count (Some p) = (3 ≤ p.block) × (p.count ≤ 16) × (p.first + p.count ≤ 32) × (32 * p.block + 32 ≤ count)
+
+-- the entry of a memory that is up, whose pieces can be put back
+pub record Undoable (m : Model) (e : LogEntry) : Type 0 where
+  pub up : m.up ≡ true
+  pub size : 96 ≤ m.count
+  pub tells : Tells m.seen e
+  pub start : Puttable m.count e.start
+  pub last : Puttable m.count e.end
 
 -- what is put back before the log is freed
 abbrev pub taken_back : Words → List Word

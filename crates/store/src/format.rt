@@ -5,6 +5,7 @@ ghost use Rattle.store.specs.Phase.{Persisted};
 use crate::phase::{clear_run, persist_word, settle, store_word};
 use image_check::refusal::Refusal;
 use image_check::size::blocks_in;
+use layout::log::LogState;
 use layout::place::{BLOCK_COUNT, LOG_STATE, SLOTS};
 use memory::memory::Memory;
 
@@ -17,7 +18,7 @@ fn clear<M: Memory>(memory: &mut M) -> Result<(), Refusal>
     ensures done { Persisted (M.Memory.model memory.old) clearing result (M.Memory.model memory.new) }
     ensures lent { M.Memory.lent memory.new ≡ M.Memory.lent memory.old }
 {
-    store_word(memory, LOG_STATE, 0)?;
+    store_word(memory, LOG_STATE, u64::from(LogState::Free))?;
     clear_run(memory, SLOTS, SLOTS_END)?;
     settle(memory)
 }

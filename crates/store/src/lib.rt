@@ -1,6 +1,8 @@
 // A file store in a memory that holds without power: the calls, over any memory.
 #![tactic(auto)]
 
+pub mod change;
+mod file;
 pub mod format;
 mod log_entry;
 pub mod names;

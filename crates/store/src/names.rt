@@ -2,7 +2,7 @@ ghost use Rattle.std.specs.Prelude.{◌≡◌, []};
 ghost use Rattle.layout.specs.Table.{create, rename, remove};
 ghost use Rattle.store.specs.Calls.{SlotCall, reply};
 
-use crate::open::{find_slot, open};
+use crate::open::{find_slot, open, open_file};
 use crate::phase::persist_word;
 use image_check::refusal::Refusal;
 use layout::name::{Name, is_well_formed, name_word};
@@ -17,15 +17,12 @@ pub fn create<M: Memory>(memory: &mut M, name: Name) -> Result<(), Refusal>
     ensures created { SlotCall (M.Memory.model memory.old) (create name) (reply (λ _. []) result) (M.Memory.model memory.new) }
     ensures lent { M.Memory.lent memory.new ≡ M.Memory.lent memory.old }
 {
-    if !is_well_formed(&name) {
-        return Err(Refusal::BadName);
-    }
-    let survey = open(memory)?;
+    let directory = open(memory, &name)?;
     let word = name_word(name);
-    if let Some(_) = find_slot(&survey.directory, word) {
+    if find_slot(&directory, word).is_some() {
         return Err(Refusal::NameTaken);
     }
-    let Some(slot) = find_slot(&survey.directory, EMPTY) else {
+    let Some(slot) = find_slot(&directory, EMPTY) else {
         return Err(Refusal::TooManyFiles);
     };
     persist_word(memory, SLOTS + (2 * slot as u64 + 1), 0)?;
@@ -37,21 +34,15 @@ pub fn rename<M: Memory>(memory: &mut M, name: Name, new: Name) -> Result<(), Re
     ensures renamed { SlotCall (M.Memory.model memory.old) (rename name new) (reply (λ _. []) result) (M.Memory.model memory.new) }
     ensures lent { M.Memory.lent memory.new ≡ M.Memory.lent memory.old }
 {
-    if !is_well_formed(&name) {
-        return Err(Refusal::BadName);
-    }
     if !is_well_formed(&new) {
         return Err(Refusal::BadName);
     }
-    let survey = open(memory)?;
-    let Some(slot) = find_slot(&survey.directory, name_word(name)) else {
-        return Err(Refusal::NoFile);
-    };
+    let file = open_file(memory, name)?;
     let word = name_word(new);
-    if let Some(_) = find_slot(&survey.directory, word) {
+    if find_slot(&file.directory, word).is_some() {
         return Err(Refusal::NameTaken);
     }
-    persist_word(memory, SLOTS + 2 * slot as u64, word)
+    persist_word(memory, file.name_place(), word)
 }
 
 // Takes a file out.
@@ -59,12 +50,6 @@ pub fn remove<M: Memory>(memory: &mut M, name: Name) -> Result<(), Refusal>
     ensures removed { SlotCall (M.Memory.model memory.old) (remove name) (reply (λ _. []) result) (M.Memory.model memory.new) }
     ensures lent { M.Memory.lent memory.new ≡ M.Memory.lent memory.old }
 {
-    if !is_well_formed(&name) {
-        return Err(Refusal::BadName);
-    }
-    let survey = open(memory)?;
-    let Some(slot) = find_slot(&survey.directory, name_word(name)) else {
-        return Err(Refusal::NoFile);
-    };
-    persist_word(memory, SLOTS + 2 * slot as u64, EMPTY)
+    let file = open_file(memory, name)?;
+    persist_word(memory, file.name_place(), EMPTY)
 }

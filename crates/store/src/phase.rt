@@ -1,20 +1,10 @@
 ghost use Rattle.std.specs.Prelude.{◌≡◌, ℕ, ◌+◌, ◌-◌, ◌^◌, ◌<◌, ◌≤◌, true, [], ◌∷◌};
 ghost use Rattle.memory.specs.Stores.{word};
-ghost use Rattle.image_check.specs.Reading.{Reads};
 ghost use Rattle.store.specs.Phase.{Within, zeros, copies, Storing, Persisted};
 
 use image_check::refusal::Refusal;
 use memory::memory::Memory;
 use memory::word::Word;
-
-// The value seen in a word of the memory. It asks for a place inside, so it is not shared with `image_check`.
-pub(crate) fn load_word<M: Memory>(memory: &mut M, at: u64) -> Result<u64, Refusal>
-    requires { at < (M.Memory.model memory.old).count }
-    ensures reads { Reads (M.Memory.model memory.old) (λ v. v ≡ (M.Memory.model memory.old).seen at) result (M.Memory.model memory.new) }
-    ensures lent { M.Memory.lent memory.new ≡ M.Memory.lent memory.old }
-{
-    Ok(memory.load(at)?)
-}
 
 // Stores a value in a word of the memory.
 pub(crate) fn store_word<M: Memory>(memory: &mut M, at: u64, value: u64) -> Result<(), Refusal>
@@ -54,7 +44,7 @@ pub(crate) fn copy_run<M: Memory>(
     ensures lent { M.Memory.lent memory.new ≡ M.Memory.lent memory.old }
 {
     for j in 0..count {
-        let value = load_word(memory, from + j)?;
+        let value = memory.load(from + j)?;
         store_word(memory, to + j, value)?;
     }
     Ok(())

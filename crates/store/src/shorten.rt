@@ -2,11 +2,10 @@ ghost use Rattle.std.specs.Prelude.{◌≡◌, ◌+◌, ◌*◌, ◌^◌, [], if
 ghost use Rattle.layout.specs.Table.{shorten};
 ghost use Rattle.store.specs.Calls.{SlotCall, reply};
 
-use crate::open::{find_slot, open};
+use crate::open::open_file;
 use crate::phase::persist_word;
 use image_check::refusal::Refusal;
-use layout::name::{Name, is_well_formed, name_word};
-use layout::place::SLOTS;
+use layout::name::Name;
 use layout::root::Root;
 use memory::memory::Memory;
 
@@ -28,20 +27,10 @@ pub fn shorten<M: Memory>(memory: &mut M, name: Name, length: u32) -> Result<(),
     ensures shortened { SlotCall (M.Memory.model memory.old) (shorten name length) (reply (λ _. []) result) (M.Memory.model memory.new) }
     ensures lent { M.Memory.lent memory.new ≡ M.Memory.lent memory.old }
 {
-    if !is_well_formed(&name) {
-        return Err(Refusal::BadName);
-    }
-    let survey = open(memory)?;
-    let Some(slot) = find_slot(&survey.directory, name_word(name)) else {
-        return Err(Refusal::NoFile);
-    };
-    let root = Root::from(survey.directory.slots[slot].root);
+    let file = open_file(memory, name)?;
+    let root = file.root();
     if length > root.length {
         return Err(Refusal::TooLong);
     }
-    persist_word(
-        memory,
-        SLOTS + (2 * slot as u64 + 1),
-        short_root(root, length),
-    )
+    persist_word(memory, file.root_place(), short_root(root, length))
 }

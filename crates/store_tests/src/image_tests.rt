@@ -1,17 +1,8 @@
-use crate::bench::{image_in, store_words};
+use crate::bench::{IMAGE, image_in, store_words};
 use image_check::image::check_image;
 use image_check::refusal::Refusal;
 use std::process::Abort;
 use std::test::Fail;
-
-// Six blocks with one file, `A`, of three bytes: its map is block 3, and its bytes are in block 4.
-const IMAGE: [(u64, u64); 5] = [
-    (0, 6),
-    (64, 0x41),
-    (65, 0x0000_0003_0000_0003),
-    (96, 4),
-    (128, 0x21_4948),
-];
 
 // The number of the first rule that the check finds broken in that image with some words changed.
 fn broken_rule(rt: &impl Abort, changes: &[(u64, u64)]) -> Result<Option<u8>, Fail> {

@@ -1,6 +1,6 @@
 ghost use Rattle.std.specs.Prelude.{◌<◌};
 
-use crate::bench::{image_in, store_words};
+use crate::bench::{image_in, store_words, takes_up_to};
 use image_check::refusal::{Refusal, Rule};
 use layers::cache::Cache;
 use media::byte_image::ByteImage;
@@ -391,11 +391,8 @@ fn recovers_after_any_cut<M: CutPoint>(
     memory: &mut M,
     case: Case,
 ) -> Result<(), Fail> {
-    assert!(rt; !ends_before_cut(rt, memory, case, 0)?, "{}", case.name);
-    for cut in 1..MANY {
-        let _ = ends_before_cut(rt, memory, case, cut)?;
-    }
-    assert!(rt; ends_before_cut(rt, memory, case, MANY)?, "{}", case.name);
+    let ends = takes_up_to(MANY, |cut| ends_before_cut(rt, memory, case, cut))?;
+    assert!(rt; ends, "{}", case.name);
     Ok(())
 }
 

@@ -1,10 +1,10 @@
-ghost use Rattle.std.specs.Prelude.{◌≡◌, ℕ, ◌<◌, true, false, length, replicate, is_ok, IfOk, if◌then◌else◌, None, vec_len, nat_lt, slice_index, slice_set, refl};
+ghost use Rattle.std.specs.Prelude.{◌≡◌, ℕ, ◌<◌, true, false, length, replicate, is_ok, IfOk, if◌then◌else◌, None, vec_len, nat_lt, refl};
 ghost use Rattle.std.proofs.Common.{inl};
 ghost use Rattle.memory.specs.Model.{Loaded, Stored, Flushed, Restarted};
 ghost use Rattle.media.specs.Power.{spent, answer, power_after};
-ghost use Rattle.media.specs.Lagging.{lagging_model, newest, none_lent, survivor};
+ghost use Rattle.media.specs.Lagging.{both, cell_at, lagging_model, newest, none_lent, survivor, with_seen};
 
-use crate::lagging::LaggingMemory;
+use crate::lagging::{Cell, LaggingMemory};
 use crate::power::Power;
 use memory::cut_point::CutPoint;
 use memory::fault::Fault;
@@ -18,31 +18,32 @@ fn keeps_newest(given: u8, i: usize) -> bool
     (given >> (i % 8)) % 2 == 1
 }
 
-// Leaves each word the value that survives, both seen and kept. Nothing is known of the items of a `zip` of two slices that change.
-fn settle(seen: &mut [u64], kept: &mut [u64], given: u8)
-    requires { length seen.old ≡ length kept.old }
-    ensures seen { (i : ℕ) → i < length seen.old → slice_index seen.new i ≡ survivor given seen.old kept.old i }
-    ensures kept { kept.new ≡ seen.new }
+// Leaves each word the value that survives, both seen and kept.
+fn settle(cells: &mut [Cell], given: u8)
+    ensures { (i : ℕ) → i < length cells.old → cell_at cells.new i ≡ both (survivor given i (cell_at cells.old i)) }
 {
-    for (i, word) in kept.iter_mut().enumerate() {
-        if keeps_newest(given, i) {
-            *word = seen[i];
-        }
+    for (i, cell) in cells.iter_mut().enumerate() {
+        let word = if keeps_newest(given, i) {
+            cell.seen
+        } else {
+            cell.kept
+        };
+        *cell = Cell {
+            seen: word,
+            kept: word,
+        };
     }
-    seen.copy_from_slice(kept);
 }
 
 impl LaggingMemory {
     // A memory of so many words, all zero, with its power still off.
     pub fn new(heap: Global, count: usize, given: u8) -> Result<LaggingMemory, AllocError>
-        ensures seen { IfOk result (λ m. m.seen.items ≡ replicate count 0) }
-        ensures kept { IfOk result (λ m. m.kept.items ≡ replicate count 0) }
+        ensures cells { IfOk result (λ m. m.cells.items ≡ replicate count (both 0)) }
         ensures given { IfOk result (λ m. m.given ≡ given) }
         ensures power { IfOk result (λ m. m.power ≡ record { up = false; cut = None }) }
     {
         Ok(LaggingMemory {
-            seen: vec![in heap; 0; count]?,
-            kept: vec![in heap; 0; count]?,
+            cells: vec![in heap; Cell { seen: 0, kept: 0 }; count]?,
             given,
             power: Power::OFF,
         })
@@ -57,9 +58,9 @@ impl Memory for LaggingMemory {
     ghost lent = { none_lent };
 
     fn count(&self) -> u64
-        ensures { result ≡ vec_len self.now.seen }
+        ensures { result ≡ vec_len self.now.cells }
     {
-        self.seen.len() as u64
+        self.cells.len() as u64
     }
 
     fn is_up(&self) -> bool
@@ -71,29 +72,27 @@ impl Memory for LaggingMemory {
     fn load(&mut self, at: u64) -> Result<u64, Fault>
         ensures gives { Loaded (lagging_model self.old) at result (lagging_model self.new) }
         ensures same { none_lent self.new ≡ none_lent self.old }
-        ensures value { result ≡ answer self.old.power (nat_lt at (vec_len self.old.seen)) (slice_index self.old.seen.items at) }
-        ensures power { self.new.power ≡ power_after self.old.power (nat_lt at (vec_len self.old.seen)) }
-        ensures seen { self.new.seen.items ≡ self.old.seen.items }
-        ensures kept { self.new.kept.items ≡ self.old.kept.items }
+        ensures value { result ≡ answer self.old.power (nat_lt at (vec_len self.old.cells)) (cell_at self.old.cells.items at).seen }
+        ensures power { self.new.power ≡ power_after self.old.power (nat_lt at (vec_len self.old.cells)) }
+        ensures cells { self.new.cells.items ≡ self.old.cells.items }
         ensures given { self.new.given ≡ self.old.given }
     {
         let inside = at < self.count();
         self.power.admit(inside)?;
-        Ok(self.seen[at as usize])
+        Ok(self.cells[at as usize].seen)
     }
 
     fn store(&mut self, at: u64, value: u64) -> Result<(), Fault>
         ensures gives { Stored (lagging_model self.old) at value result (lagging_model self.new) }
         ensures same { none_lent self.new ≡ none_lent self.old }
-        ensures value { result ≡ answer self.old.power (nat_lt at (vec_len self.old.seen)) tt }
-        ensures power { self.new.power ≡ power_after self.old.power (nat_lt at (vec_len self.old.seen)) }
-        ensures seen { self.new.seen.items ≡ (if is_ok result then slice_set self.old.seen.items at value else self.old.seen.items) }
-        ensures kept { self.new.kept.items ≡ self.old.kept.items }
+        ensures value { result ≡ answer self.old.power (nat_lt at (vec_len self.old.cells)) tt }
+        ensures power { self.new.power ≡ power_after self.old.power (nat_lt at (vec_len self.old.cells)) }
+        ensures cells { self.new.cells.items ≡ (if is_ok result then with_seen self.old.cells.items at value else self.old.cells.items) }
         ensures given { self.new.given ≡ self.old.given }
     {
         let inside = at < self.count();
         self.power.admit(inside)?;
-        self.seen[at as usize] = value;
+        self.cells[at as usize].seen = value;
         Ok(())
     }
 
@@ -102,12 +101,14 @@ impl Memory for LaggingMemory {
         ensures same { none_lent self.new ≡ none_lent self.old }
         ensures value { result ≡ answer self.old.power true tt }
         ensures power { self.new.power ≡ spent self.old.power }
-        ensures seen { self.new.seen.items ≡ self.old.seen.items }
-        ensures kept { self.new.kept.items ≡ (if is_ok result then self.old.seen.items else self.old.kept.items) }
+        ensures count { vec_len self.new.cells ≡ vec_len self.old.cells }
+        ensures cells { (i : ℕ) → i < vec_len self.old.cells → cell_at self.new.cells.items i ≡ (if is_ok result then both (cell_at self.old.cells.items i).seen else cell_at self.old.cells.items i) }
         ensures given { self.new.given ≡ self.old.given }
     {
         self.power.admit(true)?;
-        self.kept.copy_from_slice(&self.seen);
+        for cell in self.cells.iter_mut() {
+            cell.kept = cell.seen;
+        }
         Ok(())
     }
 
@@ -116,12 +117,11 @@ impl Memory for LaggingMemory {
         ensures same { none_lent self.new ≡ none_lent self.old }
         ensures value { result ≡ true }
         ensures power { self.new.power ≡ record { up = true; cut = None } }
-        ensures count { vec_len self.new.seen ≡ vec_len self.old.seen }
-        ensures seen { (i : ℕ) → i < vec_len self.old.seen → slice_index self.new.seen.items i ≡ survivor self.old.given self.old.seen.items self.old.kept.items i }
-        ensures kept { self.new.kept.items ≡ self.new.seen.items }
+        ensures count { vec_len self.new.cells ≡ vec_len self.old.cells }
+        ensures cells { (i : ℕ) → i < vec_len self.old.cells → cell_at self.new.cells.items i ≡ both (survivor self.old.given i (cell_at self.old.cells.items i)) }
         ensures given { self.new.given ≡ self.old.given }
     {
-        settle(&mut self.seen, &mut self.kept, self.given);
+        settle(&mut self.cells, self.given);
         self.power = Power::ON;
         true
     }
@@ -134,8 +134,7 @@ impl CutPoint for LaggingMemory {
         ensures cut { self.new.power.cut ≡ operations }
         ensures same { lagging_model self.new ≡ lagging_model self.old }
         ensures lent { none_lent self.new ≡ none_lent self.old }
-        ensures seen { self.new.seen.items ≡ self.old.seen.items }
-        ensures kept { self.new.kept.items ≡ self.old.kept.items }
+        ensures cells { self.new.cells.items ≡ self.old.cells.items }
         ensures given { self.new.given ≡ self.old.given }
     {
         self.power.cut = operations;

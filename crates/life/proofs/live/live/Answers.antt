@@ -16,7 +16,7 @@ loop-call-preserved g c =
     let did = c.step-answer.ensures in
     let long = did.long ∙ c.loop-call.auto.buffer in
     record {
-      along = along-more _ _ _ c.args.calls.now c.loop-call.call-index (length c.args.buffer.now) _ _ _ _ _ _ _ c.loop-call-test.true long inv.along (rw c.loop-call.auto.buffer at did.did) c.ready_after-ready.ensures (search rules);
+      along = along-more _ _ _ c.args.calls.now c.loop-call.call-index (length c.args.buffer.now) _ _ _ _ _ _ _ c.loop-call-test.true long inv.along (rw c.loop-call.auto.buffer at did.did) (rw c.loop-call.auto.buffer at did.ready) (search rules);
       lent = did.lent ∙ inv.lent;
     }
 

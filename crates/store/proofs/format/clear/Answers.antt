@@ -1,31 +1,21 @@
-use Rattle.std.proofs.Common.{◌∙◌, rules}
+use Rattle.std.proofs.Common.{rules}
 use Rattle.store.specs.Phase.{zeros}
 use Rattle.store.specs.Format.{clearing}
-use Rattle.store.proofs.Phases.{persisted-exit, cut_short, cut-more, so_far}
+use Rattle.store.proofs.Phases.{cut_short, cut-more, so_far}
 use Rattle.store.proofs.Formatting.{clear-done}
 use Rattle.store.proofs.format.clear.Goals as goal
 
-pub returns-in_err-store_word : goal.returns-in_err-store_word
+pub returns-in_err-store_word-clause-done : goal.returns-in_err-store_word-clause-done
 unfolding clearing
-returns-in_err-store_word g c = let h = c.in_err-store_word.ensures in record {
-  done = persisted-exit (g.M.Memory.model c.store_word.new.memory) c.in_err-store_word.field-0.0 c.from_residual.result c.from_residual.ensures.1 h.made.1 (cut_short (zeros 64 32) h.made.0);
-  lent = h.lent;
-}
+returns-in_err-store_word-clause-done g c = let cut = cut_short (zeros 64 32) (rw c.from.ensures at c.in_err-store_word.ensures.made.0) in search (rules, cut)
 
-pub returns-in_err-clear_run : goal.returns-in_err-clear_run
+pub returns-in_err-clear_run-clause-done : goal.returns-in_err-clear_run-clause-done
 unfolding clearing
-returns-in_err-clear_run g c =
-    let first = c.in_ok-store_word.ensures in
-    let h = c.in_err-clear_run.ensures in
-    record {
-      done = persisted-exit (g.M.Memory.model c.clear_run.new.memory) c.in_err-clear_run.field-0.0 c.from_residual-in_err-clear_run.result c.from_residual-in_err-clear_run.ensures.1 h.made.1
-          (cut-more (so_far first.made) h.made.0);
-      lent = h.lent ∙ first.lent;
-    }
+returns-in_err-clear_run-clause-done g c =
+    let first = rw c.from.ensures at c.in_ok-store_word.ensures.made in
+    let cut = cut-more (so_far first) c.in_err-clear_run.ensures.made.0 in search (rules, cut)
 
-pub returns : goal.returns
-returns g c =
-    let first = c.in_ok-store_word.ensures in
-    let rest = c.in_ok-clear_run.ensures in
-    let end = clear-done first.made rest.made in
-    record { done = search (rules, end); lent = cc (rest.lent, first.lent) }
+pub returns-clause-done : goal.returns-clause-done
+returns-clause-done g c =
+    let first = rw c.from.ensures at c.in_ok-store_word.ensures.made in
+    let end = clear-done first c.in_ok-clear_run.ensures.made in search (rules, end)

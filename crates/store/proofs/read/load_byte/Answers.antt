@@ -1,32 +1,34 @@
-use Rattle.std.proofs.Common.{◌≡◌, ◌∙◌}
-use Rattle.image_check.proofs.Looking.{looked-more, looked-down, reads_exit}
-use Rattle.store.specs.Read.{byte_at}
-use Rattle.store.proofs.Bytewise.{byte-loaded}
+use Rattle.std.proofs.Common.{refl, inl, inr, rules}
+use Rattle.image_check.proofs.Looking.{load-reads, load-down}
+use Rattle.store.proofs.Bytewise.{byte-loaded, map_within, block_within, word_within}
 use Rattle.store.proofs.read.load_byte.Goals as goal
 
-pub returns-in_err-word : goal.returns-in_err-word
-returns-in_err-word g c =
-    let m = g.M.Memory.model c.args.memory.now in
-    let first = c.in_ok-block.ensures in
-    let h = c.in_err-word.ensures in
-    let r = c.from_residual-in_err-word in
-    record {
-      reads = reads_exit (g.M.Memory.model c.load_word-2.new.memory) (λ b. b ≡ byte_at m.seen c.args.map c.args.at) c.in_err-word.field-0.0 r.result r.ensures.1 h.reads.1
-          (looked-down first.reads.0 h.reads.0);
-      lent = h.lent ∙ first.lent;
-    }
+pub returns-in_err-block-clause-reads : goal.returns-in_err-block-clause-reads
+returns-in_err-block-clause-reads g c =
+    let k = c.split-k.result.0 in
+    let is = c.split-k.ensures.block in
+    let inside = map_within c.args.root c.args.at c.from.result k c.requires.file c.requires.within c.from.ensures is in
+    let down = load-down _ _ (inl refl) inside c.in_err-block.ensures.gives in search (rules, down)
 
-pub returns : goal.returns
-returns g c =
-    let m = g.M.Memory.model c.args.memory.now in
-    let k = g.M.Memory.model c.load_word.new.memory in
-    let place = c.split-k in
-    let first = c.in_ok-block.ensures in
-    let h = c.in_ok-word.ensures in
-    record {
-      reads = (
-        looked-more first.reads.0 h.reads.0,
-        byte-loaded {m = m} {k = k} c.args.map c.args.at place.result.0 place.result.1 c.in_ok-block.block c.in_ok-word.word place.ensures.block place.ensures.place c.requires.block first.reads.1 first.reads.0 h.reads.1,
-      );
-      lent = h.lent ∙ first.lent;
-    }
+pub returns-in_err-word-clause-reads : goal.returns-in_err-word-clause-reads
+returns-in_err-word-clause-reads g c =
+    let k = c.split-k.result.0 in
+    let is = c.split-k.ensures.block in
+    let inside = map_within c.args.root c.args.at c.from.result k c.requires.file c.requires.within c.from.ensures is in
+    let one = load-reads _ _ (inl refl) inside c.in_ok-block.ensures.gives in
+    let within = word_within c.args.root c.args.at c.from.result k c.requires.file c.requires.within c.from.ensures is _ c.split-k.result.1 one.1 c.split-k.ensures.place in
+    let down = load-down _ _ (inr one.0) within c.in_err-word.ensures.gives in search (rules, down)
+
+pub returns-clause-reads : goal.returns-clause-reads
+returns-clause-reads g c =
+    let k = c.split-k.result.0 in
+    let is = c.split-k.ensures.block in
+    let place = c.split-k.result.1 in
+    let map = c.from.result in
+    let inside = map_within c.args.root c.args.at map k c.requires.file c.requires.within c.from.ensures is in
+    let one = load-reads _ _ (inl refl) inside c.in_ok-block.ensures.gives in
+    let within = word_within c.args.root c.args.at map k c.requires.file c.requires.within c.from.ensures is _ place one.1 c.split-k.ensures.place in
+    let two = load-reads _ _ (inr one.0) within c.in_ok-word.ensures.gives in
+    let block = block_within c.args.root c.args.at map k c.requires.file c.requires.within c.from.ensures is in
+    let byte = byte-loaded map c.args.at k place c.in_ok-block.block c.in_ok-word.word is c.split-k.ensures.place block one.1 one.0 c.in_ok-word.ensures.gives.3 in
+    (two.0, rw c.from.ensures at byte)

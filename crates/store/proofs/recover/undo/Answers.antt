@@ -1,41 +1,35 @@
-use Rattle.std.proofs.Common.{◌∙◌, subst, arith, rules}
-use Rattle.layout.specs.Log.{putting_back}
 use Rattle.store.specs.Phase.{AllMade, CutIn}
-use Rattle.store.proofs.Phases.{persisted-exit, cut_short, cut-more, done_more, so_far, ending}
-use Rattle.store.proofs.Recovery.{second-piece}
+use Rattle.std.proofs.Common.{subst, arith, rules}
+use Rattle.store.specs.LogEntry.{putting}
+use Rattle.store.proofs.Phases.{cut_short, cut-more, done_more, so_far, ending}
+use Rattle.store.proofs.Recovery.{second-piece, tells-pieces}
 use Rattle.store.proofs.recover.undo.Goals as goal
 
-pub returns-in_err-put_back : goal.returns-in_err-put_back
-returns-in_err-put_back g c =
+pub returns-in_err-put_back-clause-done : goal.returns-in_err-put_back-clause-done
+returns-in_err-put_back-clause-done g c =
     let m = g.M.Memory.model c.args.memory.now in
-    let h = c.in_err-put_back.ensures in
-    record {
-      done = persisted-exit (g.M.Memory.model c.put_back.new.memory) c.in_err-put_back.field-0.0 c.from_residual.result c.from_residual.ensures.1 h.made.1 (cut_short (putting_back m.seen c.args.end 48) h.made.0);
-      lent = h.lent;
-    }
+    let e = c.args.entry.now in
+    let cut = rw (tells-pieces m.seen e c.requires.tells) at (cut_short (putting m.seen e.end 48) c.in_err-put_back.ensures.made.0) in search (rules, cut)
 
-pub returns-in_err-put_back-2 : goal.returns-in_err-put_back-2
-returns-in_err-put_back-2 g c =
+pub returns-in_err-put_back-2-clause-done : goal.returns-in_err-put_back-2-clause-done
+returns-in_err-put_back-2-clause-done g c =
     let m = g.M.Memory.model c.args.memory.now in
+    let e = c.args.entry.now in
+    let r = c.requires in
     let k = g.M.Memory.model c.put_back.new.memory in
     let n = g.M.Memory.model c.put_back-2.new.memory in
-    let first = c.in_ok-put_back.ensures in
-    let h = c.in_err-put_back-2.ensures in
-    let r = c.from_residual-in_err-put_back-2 in
-    let same = second-piece {m = m} {k = k} c.args.start c.args.end 48 c.requires.size c.requires.start c.requires.last (omega arith) first.made in
-    record {
-      done = persisted-exit n c.in_err-put_back-2.field-0.0 r.result r.ensures.1 h.made.1 (cut-more (so_far first.made) (subst (λ ss. CutIn k ss n) same h.made.0));
-      lent = h.lent ∙ first.lent;
-    }
+    let first = c.in_ok-put_back.ensures.made in
+    let same = second-piece {m = m} {k = k} e.start e.end 48 r.size r.start r.last (omega arith) first in
+    let cut = rw (tells-pieces m.seen e r.tells) at (cut-more (so_far first) (subst (λ ss. CutIn k ss n) same c.in_err-put_back-2.ensures.made.0)) in search (rules, cut)
 
-pub returns : goal.returns
-returns g c =
+pub returns-clause-done : goal.returns-clause-done
+returns-clause-done g c =
     let m = g.M.Memory.model c.args.memory.now in
+    let e = c.args.entry.now in
+    let r = c.requires in
     let k = g.M.Memory.model c.put_back.new.memory in
-    let o = g.M.Memory.model c.put_back-2.new.memory in
-    let first = c.in_ok-put_back.ensures in
-    let second = c.in_ok-put_back-2.ensures in
-    let same = second-piece {m = m} {k = k} c.args.start c.args.end 48 c.requires.size c.requires.start c.requires.last (omega arith) first.made in
-    let both = done_more first.made (subst (λ ss. AllMade k ss o) same second.made) in
-    let end = ending both in
-    record { done = search (rules, end); lent = cc (second.lent, first.lent) }
+    let n = g.M.Memory.model c.put_back-2.new.memory in
+    let first = c.in_ok-put_back.ensures.made in
+    let same = second-piece {m = m} {k = k} e.start e.end 48 r.size r.start r.last (omega arith) first in
+    let both = rw (tells-pieces m.seen e r.tells) at (done_more first (subst (λ ss. AllMade k ss n) same c.in_ok-put_back-2.ensures.made)) in
+    let end = ending both in search (rules, end)

@@ -1,34 +1,19 @@
-use Rattle.std.proofs.Common.{◌≡◌, List, ℕ, [], length, take, Ok, Err, refl, inl, rules}
-use Rattle.file_console.specs.Answers.{Said, carried_of}
-use Rattle.file_console.specs.Commands.{letter}
-use Rattle.file_console.specs.Lines.{line}
+use Rattle.std.proofs.Common.{◌≡◌, length, refl, rules}
 use Rattle.console.specs.Denials.{number_of}
-use Rattle.file_console.proofs.Showing.{shown-count, told, told-as}
+use Rattle.console.specs.Lines.{answer_line}
+use Rattle.file_console.specs.Answers.{carried_of}
+use Rattle.file_console.specs.Commands.{letter}
+use Rattle.file_console.specs.Outcomes.{said, shown_of}
+use Rattle.file_console.proofs.Showing.{wrote-answer}
 use Rattle.file_console.proofs.state.StateSession.answer.Goals as goal
 
-pub returns-in-Ok-clause-tells : goal.returns-in-Ok-clause-tells
-returns-in-Ok-clause-tells g c =
-    let l = letter c.args.command in
-    let a : Said = Ok c.in-Ok.done.carried in
-    let long : length c.step.new.buffer ≡ 32 = search rules in
-    let shown : List ℕ = take c.in-Ok.done.shown c.step.new.buffer in
-    let may = shown-count 0 c.in-Ok.done.carried c.in-Ok.done.shown c.step.new.buffer long c.in-Ok.ensures.few in (
-      line l 0 c.in-Ok.done.carried shown,
-      (a, shown, c.in-Ok.ensures.steps, refl),
-      (λ room. told c.args.out.now c.write_line.new.out shown c.letter.result l 0 c.in-Ok.done.carried c.write_line.result
-          c.letter.ensures room may c.write_line.ensures.few c.write_line.ensures.writes),
-    )
-
-pub returns-in-Err-clause-tells : goal.returns-in-Err-clause-tells
-returns-in-Err-clause-tells g c =
-    let l = letter c.args.command in
-    let a : Said = Err c.in-Err.denial in
-    let n = number_of a in
-    let o = carried_of a in
-    let number : c.from.result ≡ n = c.from.ensures in
-    let value : c.carried.result ≡ o = c.carried.ensures in (
-      line l n o [],
-      (a, [], c.in-Err.ensures.steps, refl),
-      (λ room. told-as c.args.out.now c.write_line-in-Err.new.out [] c.letter-in-Err.result l c.from.result n c.carried.result o c.write_line-in-Err.result
-          c.letter-in-Err.ensures number value room (inl refl) c.write_line-in-Err.ensures.few c.write_line-in-Err.ensures.writes),
+pub returns-clause-tells : goal.returns-clause-tells
+returns-clause-tells g c =
+    let a = c.step-answer.result in
+    let buffer = c.step-answer.new.buffer in
+    let long : length buffer ≡ 32 = search rules in (
+      answer_line (letter c.args.command) (number_of (said a)) (carried_of (said a)) (shown_of a buffer),
+      (said a, shown_of a buffer, c.step-answer.ensures.steps, refl),
+      wrote-answer a buffer c.args.out.now c.write_answer.new.out c.letter.result (letter c.args.command) c.number.result c.told-carried.result.1 c.told-carried.result.0 c.write_answer.result
+          long c.letter.ensures c.number.ensures c.told-carried.ensures.carried c.told-carried.ensures.shown c.write_answer.ensures.writes c.write_answer.ensures.few,
     )

@@ -25,10 +25,10 @@ impl From<Refusal> for Denial {
     }
 }
 
+// The number that stands for the denial.
 impl From<Denial> for u8 {
     ghost from_gives = { λ d n. n ≡ denied d };
 
-    // The number that stands for the denial.
     fn from(denial: Denial) -> u8 {
         match denial {
             Denial::Refused(refusal) => u8::from(refusal),

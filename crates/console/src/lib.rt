@@ -1,4 +1,4 @@
-// The session: commands from bytes, the state that allows them, and the lines that answer them.
+// The session of restart, format and the cut point; and what every session has: denials, lines, turns, and a run of them.
 #![tactic(auto)]
 
 pub mod command;

@@ -7,7 +7,8 @@ use itoa::Buffer;
 // the bytes that any line needs at most
 pub const LINE: usize = 72;
 
-// Writes a text into a buffer from a place on, and answers the place after it.
+// Writes a text into a buffer from a place on, and answers the place after it. With both in a struct, each function of a part of a
+// line would have to say that the loan of the buffer stays, too.
 fn put(out: &mut [u8], at: usize, text: &[u8]) -> usize
     requires { at + length text.now ≤ length out.old }
     ensures value { result ≡ at + length text.now }
@@ -82,6 +83,8 @@ fn fits(room: usize, number: u8, carried: Option<u16>, shown: &[u8]) -> bool
 }
 
 // Writes the line of an answer at the start of a buffer, and answers its length; none, and nothing written, if it does not fit.
+// The answer comes as a number, since there is a line of every number; and a length is answered, since a slice would end what is known
+// of the buffer's other bytes.
 pub fn write_answer(
     out: &mut [u8],
     letter: u8,
@@ -105,7 +108,7 @@ pub fn write_answer(
 }
 
 // Writes the line of an answer that carries and shows nothing, and answers its length; none, and nothing written, if the buffer is
-// short. A buffer of fewer than 72 bytes is short even for a short line.
+// short. A buffer of fewer than 72 bytes is short even for a short line. It is of every number, too.
 pub fn write_line(out: &mut [u8], letter: u8, number: u8) -> Option<usize>
     ensures value { result ≡ (if nat_lt (length out.old) 72 then None else Some (length (line letter number))) }
     ensures bound { IfSome result (λ n. n ≤ length out.new) }

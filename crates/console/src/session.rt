@@ -14,7 +14,8 @@ pub trait Session<M: CutPoint> {
     // a command that is carried out in a state on a memory, the line that answers it, and the state and the memory then
     ghost tells: { Self → Self.Command → M → List ℕ → Self → M → Type 0 };
 
-    // The first command of the input, and what follows it; none if it is unknown or short.
+    // The first command of the input, and what follows it; none if it is unknown or short. That the rest is shorter ends a run; no type
+    // of a slice says it.
     fn parse(input: &[u8]) -> Option<(Self::Command, &[u8])>
         ensures value { option_map (λ x. (x.0, x.1.now)) result ≡ first input.now }
         ensures shorter { IfSome result (λ x. length x.1.now < length input.now) };

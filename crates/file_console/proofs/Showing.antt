@@ -89,10 +89,7 @@ pub wrote-answer : (a : Result Done Denial) (bs out out' : List ℕ) (l letter n
     → Writes out (answer_line l n v (take k bs)) r out' → (MayShow n v (length (take k bs)) → length (answer_line l n v (take k bs)) ≤ 72)
     → Wrote out (answer_line letter (number_of (said a)) (carried_of (said a)) (shown_of a bs)) r out'
 wrote-answer a bs out out' l letter n k v r long el en ev ek writes few =
-    let number = number_of (said a) in
-    let carried = carried_of (said a) in
-    let en' = en ∙ number-said a in
-    let same : answer_line l n v (take k bs) ≡ answer_line letter number carried (shown_of a bs) = cc in
-    let may : MayShow n v (length (take k bs)) =
-    subst (λ x. MayShow x v (length (take k bs))) (sym en') (subst (λ x. MayShow number x (length (take k bs))) (sym ev) (subst (λ x. MayShow number carried (length (take x bs))) (sym ek) (may-show a bs long))) in
-    wrote out (answer_line letter number carried (shown_of a bs)) out' r (subst (λ t. length t ≤ 72) same (few may)) (subst (λ t. Writes out t r out') same writes)
+    let en' : n ≡ number_of (said a) = en ∙ number-said a in
+    let may : MayShow n v (length (take k bs)) = rw (en', ev, ek) (may-show a bs long) in
+    let same : answer_line l n v (take k bs) ≡ answer_line letter (number_of (said a)) (carried_of (said a)) (shown_of a bs) = cc in
+    subst (λ t. Wrote out t r out') same (wrote out (answer_line l n v (take k bs)) out' r (few may) writes)

@@ -1,4 +1,4 @@
--- What an answer says: a number, 0 for done, and the value that it carries, if any.
+-- What a command is answered by: the value that it carries, if any, or why it was not done; and the number and the value of that.
 use Rattle.std.specs.Prelude.{ℕ, Bool, cond, Some, None, Ok, Err, Option, Result}
 use Rattle.image_check.specs.Answers.{rule_number}
 use Rattle.image_check.specs.declared.refusal.Refusal.{Refusal}

@@ -5,7 +5,7 @@ use console::denial::Denial;
 use image_check::refusal::Refusal;
 
 // What a command gives that was done: the value that it carries, and how many bytes of the buffer it shows. A slice in place of the
-// count would end what is known of the buffer.
+// count would end what is known of the buffer; an enum of three kinds is longer, since a variant has no ghost field for the bound.
 #[derive(Clone, Copy, PartialEq, Eq, Debug)]
 pub struct Done {
     pub carried: Option<u16>,

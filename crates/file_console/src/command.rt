@@ -11,7 +11,7 @@ pub const SHOWN: usize = 32;
 // The bytes that a read gives.
 pub type Given = [u8; SHOWN];
 
-// What a session is told to do.
+// What a session is told to do. Three commands are those of `console` too; as one case here, each match would take it apart again.
 #[derive(Clone, Copy, PartialEq, Eq, Debug)]
 pub enum Command {
     // turn power off and on again

@@ -1,4 +1,4 @@
-// The session: commands from bytes, the state that allows them, and the lines that answer them.
+// The session with recovery and the file commands: commands from bytes, the state that allows them, and what they give.
 #![tactic(auto)]
 
 pub mod answer;

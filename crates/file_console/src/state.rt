@@ -16,7 +16,7 @@ use store::format::format;
 use store::read::read;
 use store::recover::recover;
 
-// What a session allows: nothing but a restart, what an unread store allows, or what a recovered one does.
+// What a session allows: nothing but a restart, what an unread store allows, or what a recovered one does, which `console` never has.
 #[derive(Clone, Copy, PartialEq, Eq, Debug)]
 pub enum State {
     // there is no power

@@ -46,7 +46,7 @@ pub(crate) fn make_store<M: Memory>(rt: &impl Abort, memory: &mut M) {
     assert_eq!(rt; format(memory), Ok(()));
 }
 
-// Stores words at their places. Each crate of tests has its own: a public one would want a contract, its proof and an edit.
+// Stores words at their places. Each crate of tests has its own: shared, these five lines would want a contract, its proof and an edit.
 pub(crate) fn store_words<M: Memory>(memory: &mut M, words: &[(u64, u64)]) -> Result<(), Fault> {
     for (at, value) in words {
         memory.store(*at, *value)?;

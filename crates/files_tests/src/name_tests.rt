@@ -45,7 +45,7 @@ fn a_name_has_one_to_eight_letters(rt: HostRuntime) -> Result<(), Fail> {
 // The bytes that names are made of.
 const LETTERS: &[u8; 37] = b"ABCDEFGHIJKLMNOPQRSTUVWXYZ0123456789-";
 
-// Whether a byte is one of them.
+// Whether a byte is one of them, told without the store's own test.
 fn is_letter(byte: u8) -> bool {
     LETTERS.contains(&byte)
 }

@@ -55,8 +55,8 @@ below-next k n w before here j ge lt = below_more (λ i. 1 ≤ i → Rule i n w)
 pub broken : (k n : ℕ) (w : Words) → 1 ≤ k → k ≤ 6 → Below k n w → (Rule k n w → ⊥) → FirstBroken k n w
 broken k n w ge le before here = record { some = ge; last = le; before = before; here = here }
 
--- the exit of a `?` where rule k is tried after those before it
-pub surveyed-exit : (k n : ℕ) (m o : Model) (e : Refusal) (r : Result Survey Refusal) → IsErrAnd r (λ y. y ≡ e) → 1 ≤ k → k ≤ 6 → Below k n m.seen → RefusedBy e (LookedDown m o) (λ j. Looked m o × (j ≡ k) × (Rule k n m.seen → ⊥)) → Surveyed n m r o
-surveyed-exit k n m o e (Ok s) h ge le before refused = absurd h
-surveyed-exit k n m o e (Err y) h ge le before refused =
-    subst (λ x. Surveyed n m (Err x) o) (sym h) (refused-map e (λ down. down) (λ j x. (x.0, subst (λ i. FirstBroken i n m.seen) (sym x.1) (broken k n m.seen ge le before x.2))) refused)
+-- the exit of a `?` where rule k is tried after those before it; the count of blocks has two names
+pub surveyed-exit : (k n blocks : ℕ) (m o : Model) (e : Refusal) (r : Result Survey Refusal) → n ≡ blocks → IsErrAnd r (λ y. y ≡ e) → 1 ≤ k → k ≤ 6 → Below k n m.seen → RefusedBy e (LookedDown m o) (λ j. Looked m o × (j ≡ k) × (Rule k n m.seen → ⊥)) → Surveyed blocks m r o
+surveyed-exit k n blocks m o e (Ok s) same h ge le before refused = absurd h
+surveyed-exit k n blocks m o e (Err y) same h ge le before refused =
+    subst (λ x. Surveyed blocks m (Err x) o) (sym h) (refused-map e (λ down. down) (λ j x. (x.0, subst (λ i. FirstBroken i blocks m.seen) (sym x.1) (subst (λ b. FirstBroken k b m.seen) same (broken k n m.seen ge le before x.2)))) refused)

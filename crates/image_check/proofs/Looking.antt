@@ -5,9 +5,6 @@ use Rattle.memory.specs.Model.{Model, Fewer, Loaded}
 use Rattle.memory.specs.declared.fault.Fault.{Fault}
 use Rattle.memory.specs.declared.fault.Fault.TheVariants.{Down, Outside}
 use Rattle.memory.proofs.Putting.{up-down}
-use Rattle.memory.specs.Stores.{Words}
-use Rattle.image_check.specs.Directory.{slot_at, slot_of}
-use Rattle.image_check.specs.declared.directory.Slot.{Slot}
 use Rattle.image_check.specs.declared.refusal.Refusal.{Refusal}
 use Rattle.image_check.specs.declared.refusal.Rule.{Rule}
 use Rattle.image_check.specs.Answers.{RefusedBy, rule_number}
@@ -54,10 +51,6 @@ reads_exit n P e (Err y) h p down = (down, h ∙ p)
 pub filled : (f : ℕ → ℕ) (xs : List ℕ) (i y : ℕ) → i < length xs → y ≡ f i → ((k : ℕ) → k < i → get_or xs k 0 ≡ f k) → (k : ℕ) → k < i + 1 → get_or (set xs i y) k 0 ≡ f k
 filled f xs i y lt e below k less = ap (λ v. get_or (set xs i v) k 0) e ∙ fill_by_more f xs i 0 lt below k less
 
--- and one more slot
-pub slots-more : (w : Words) (xs : List Slot) (s : ℕ) (x : Slot) → s < length xs → x ≡ slot_of w s → ((k : ℕ) → k < s → slot_at (record { slots = xs }) k ≡ slot_of w k) → (k : ℕ) → k < s + 1 → slot_at (record { slots = set xs s x }) k ≡ slot_of w k
-slots-more w xs s x lt e below k less = ap (λ v. slot_at (record { slots = set xs s v }) k) e ∙ fill_by_more (slot_of w) xs s (record { name = 0; root = 0 }) lt below k less
-
 -- a refusal that says one thing says another that follows
 pub refused-map : (e : Refusal) {lost lost' : Type 0} {bad bad' : ℕ → Type 0} → (lost → lost') → ((k : ℕ) → bad k → bad' k) → RefusedBy e lost bad → RefusedBy e lost' bad'
 refused-map PowerLost f g h = f h
@@ -81,8 +74,8 @@ module _ {X : Type 0} (m n : Model) (k : ℕ) (rule : Type 0) (P : X → Type 0)
   pub tries-part : (part : Type 0) → RefusedBy e (LookedDown m n) (λ j. Looked m n × (j ≡ k) × (part → ⊥)) → (rule → part) → Tries m k rule P r n
   tries-part part refused so = tries-exit (refused-map e (λ down. down) (λ j h. (h.0, h.1, λ holds. h.2 (so holds))) refused)
 
-  pub tries-lost : e ≡ PowerLost → LookedDown m n → Tries m k rule P r n
-  tries-lost lost down = tries-exit (subst (λ x. RefusedBy x (LookedDown m n) (λ j. Looked m n × (j ≡ k) × (rule → ⊥))) (sym lost) down)
+  pub tries-lost : LookedDown m n × (e ≡ PowerLost) → Tries m k rule P r n
+  tries-lost h = tries-exit (subst (λ x. RefusedBy x (LookedDown m n) (λ j. Looked m n × (j ≡ k) × (rule → ⊥))) (sym h.1) h.0)
 
   pub tries-bad : (q : Rule) → e ≡ BadImage q → rule_number q ≡ k → Looked m n → (rule → ⊥) → Tries m k rule P r n
   tries-bad q bad number looked never = tries-exit (subst (λ x. RefusedBy x (LookedDown m n) (λ j. Looked m n × (j ≡ k) × (rule → ⊥))) (sym bad) (looked, number, never))

@@ -1,5 +1,5 @@
 ghost use Rattle.std.specs.Prelude.{◌≡◌, ◌<◌, Decides};
-ghost use Rattle.layout.specs.Image.{GoodRoot};
+ghost use Rattle.layout.specs.Image.{DataBlock, GoodRoot};
 ghost use Rattle.image_check.specs.Check.{NameGood, RootGood, Formed, Single, Differ, Rooted};
 
 use layout::name::{is_well_formed, name_bytes};
@@ -18,6 +18,13 @@ pub struct Directory {
     pub slots: [Slot; 16],
 }
 
+// Whether a block may hold a map or file bytes, in a memory of so many blocks.
+pub(crate) fn is_data_block(block: u64, blocks: u64) -> bool
+    ensures { Decides result (DataBlock blocks block) }
+{
+    3 <= block && block < blocks
+}
+
 // Whether a root word is zero, or has a map among the data blocks and a length.
 fn root_is_good(word: u64, blocks: u64) -> bool
     ensures { Decides result (GoodRoot blocks word) }
@@ -27,7 +34,10 @@ fn root_is_good(word: u64, blocks: u64) -> bool
     }
     let root = Root::from(word);
     let map = u64::from(root.map);
-    word >> 16 & 0xffff == 0 && 3 <= map && map < blocks && 1 <= root.length && root.length <= 8192
+    word >> 16 & 0xffff == 0
+        && is_data_block(map, blocks)
+        && 1 <= root.length
+        && root.length <= 8192
 }
 
 impl Slot {
@@ -58,12 +68,7 @@ impl Directory {
     fn names_formed(&self) -> bool
         ensures { Decides result (Formed self.now) }
     {
-        for slot in &self.slots {
-            if !slot.has_good_name() {
-                return false;
-            }
-        }
-        true
+        self.slots.iter().all(|slot| slot.has_good_name())
     }
 
     // Whether the name in a slot stands in no later slot.
@@ -72,6 +77,7 @@ impl Directory {
         ensures { Decides result (Single self.now s) }
     {
         let name = self.slots[s].name;
+        // With `any` the goal `returns` stays open: nothing says there that a slot's name word is below 2 ^ 64.
         for later in &self.slots[s + 1..] {
             if later.name == name {
                 return false;

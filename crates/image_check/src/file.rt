@@ -7,7 +7,7 @@ ghost use Rattle.image_check.specs.Reading.{Looked, Since, Reads};
 
 use crate::reading::load_word;
 use crate::refusal::Refusal;
-use layout::place::BLOCK_WORDS;
+use layout::place::{BLOCK_BYTES, BLOCK_WORDS};
 use layout::root::Root;
 use memory::memory::Memory;
 
@@ -35,7 +35,7 @@ impl File {
     pub(crate) fn length_in_blocks(&self) -> u64
         ensures { result ≡ blocks_for (length_of self.now.root) }
     {
-        u64::from(Root::from(self.root).length).div_ceil(256)
+        u64::from(Root::from(self.root).length).div_ceil(BLOCK_BYTES)
     }
 
     // The number of its block k.
@@ -51,7 +51,7 @@ impl File {
     }
 
     // Whether the test holds of one of its blocks. They are loaded in order, up to the first such.
-    // A call that passes a closure cannot pick a ghost value, so a clause ranges over it.
+    // A call that passes a closure cannot choose the ghost value `first` for the callee, so the clause holds for every `first`.
     pub(crate) fn any_block<M: Memory, F: Fn(u64) -> bool>(
         &self,
         memory: &mut M,

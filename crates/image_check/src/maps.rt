@@ -5,6 +5,7 @@ ghost use Rattle.image_check.specs.Check.{MapGood, Tries};
 ghost use Rattle.image_check.specs.Files.{FilesOf};
 ghost use Rattle.image_check.specs.Reading.{Looked};
 
+use crate::directory::is_data_block;
 use crate::file::File;
 use crate::files::Files;
 use crate::refusal::{Refusal, Rule};
@@ -20,7 +21,7 @@ impl File {
         ensures lent { M.Memory.lent memory.new ≡ M.Memory.lent memory.old }
     {
         let blocks = self.blocks;
-        if self.any_block(memory, move |block| block < 3 || block >= blocks)? {
+        if self.any_block(memory, move |block| !is_data_block(block, blocks))? {
             return Err(Refusal::BadImage(Rule::Maps));
         }
         Ok(())
@@ -36,11 +37,10 @@ impl Files {
         ensures tries { Tries first 4 (Rule4 self.now.blocks first.seen) (λ _. ⊤) result (M.Memory.model memory.new) }
         ensures lent { M.Memory.lent memory.new ≡ M.Memory.lent memory.old }
     {
-        for slot in 0..16 {
-            let Some(file) = self.file(slot) else {
-                continue;
-            };
-            file.check_map(memory)?;
+        for slot in &self.directory.slots {
+            if let Some(file) = self.file_of(slot) {
+                file.check_map(memory)?;
+            }
         }
         Ok(())
     }

@@ -1,4 +1,4 @@
-ghost use Rattle.std.specs.Prelude.{◌≡◌, ℕ, ◌<◌, ◌≤◌, true};
+ghost use Rattle.std.specs.Prelude.{◌≡◌, ◌<◌, ◌≤◌};
 ghost use Rattle.memory.specs.Model.{Model};
 ghost use Rattle.image_check.specs.Reading.{Looked, Since, Reads};
 ghost use Rattle.image_check.specs.Directory.{Lists, slot_of};
@@ -7,6 +7,9 @@ use crate::directory::{Directory, Slot};
 use crate::refusal::Refusal;
 use layout::place::SLOTS;
 use memory::memory::Memory;
+
+// Power may be lost at each load, and the memory is lent: so that it is as at the first step, and has the words that are loaded, is
+// asked of each, and held by no type.
 
 // The value seen in a word of the memory.
 pub(crate) fn load_word<M: Memory>(memory: &mut M, at: u64) -> Result<u64, Refusal>

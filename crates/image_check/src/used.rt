@@ -56,8 +56,8 @@ impl Files {
         ensures lent { M.Memory.lent memory.new ≡ M.Memory.lent memory.old }
     {
         let mut set = BlockSet::new();
-        for slot in 0..16 {
-            let Some(file) = self.file(slot) else {
+        for slot in &self.directory.slots {
+            let Some(file) = self.file_of(slot) else {
                 continue;
             };
             if file.root == 0 {

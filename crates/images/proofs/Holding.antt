@@ -11,10 +11,10 @@ use Rattle.layout.specs.Lists.{equal, Rearranged, again}
 use Rattle.layout.specs.Touch.{blocks_for, called_for}
 use Rattle.layout.specs.Table.{File, Table, Ask, create, write, read, shorten, rename, remove, find, used, free, with_bytes, with_name, written, answer, change, after, buffer}
 use Rattle.layout.specs.Image.{Same, in_block, named, name_of, root_word, map_of, length_of, slot_blocks, file_byte, file_bytes, slot_files, files_of, table_of, GoodRoot, Rule2, Rule3}
-use Rattle.layout.specs.Log.{recovered, Sound, Clean, HoldsFiles, LeadsToFiles}
+use Rattle.layout.specs.Log.{Sound, Clean, HoldsFiles, LeadsToFiles}
 use Rattle.images.proofs.Frame.{same-sound, same-holds_files}
 use Rattle.images.proofs.Rearranging.{rearranged-refl, rearranged-length, rearranged-end, rearranged-used, equal-same, name_in, differ, find-rearranged, replace-rearranged}
-use Rattle.images.proofs.Recovering.{recovered-idle, recovered-clean}
+use Rattle.images.proofs.Recovering.{recovered-idle}
 
 -- the file of a named slot, and the files of k slots from slot a
 abbrev slot_file : Words → ℕ → File
@@ -159,6 +159,3 @@ clean-leads n w v t big same clean holds = record {
   sound = same-sound n w v big same clean.sound;
   holds = subst (λ u. HoldsFiles u t) (sym (recovered-idle v (same 8 (omega arith) ∙ clean.idle))) (same-holds_files n w v t big same clean.sound holds);
 }
-
-pub holds-clean : (n : ℕ) (w : Words) (t : Table) → 6 ≤ n → LeadsToFiles n w t → Clean n (recovered w) × HoldsFiles (recovered w) t
-holds-clean n w t big leads = (recovered-clean n w big leads.sound, leads.holds)

@@ -1,6 +1,6 @@
 -- A cache over a memory: from what the memory below does to what the cache does. Assumes nothing.
-use Rattle.std.proofs.Common.{◌≡◌, ℕ, ◌+◌, ◌<◌, ◌≤◌, Bool, true, false, List, [], ◌∷◌, ◌++◌, length, get_or, take, drop, is_ok, Some, None, Ok, Err, Option, Result, sym, refl, ap, ◌∙◌, subst, inl, inr, ⊎_elim, arith}
-use Rattle.std.proofs.lemmas.List.{append-nil, take_all, take-append-drop, take_more}
+use Rattle.std.proofs.Common.{◌≡◌, ℕ, ◌+◌, ◌<◌, Bool, true, false, List, [], ◌∷◌, ◌++◌, length, get_or, take, drop, Some, None, Ok, Err, Option, Result, sym, refl, ap, ◌∙◌, subst, inl, inr, ⊎_elim, arith}
+use Rattle.std.proofs.lemmas.List.{append-nil, take-append-drop, take_more}
 use Rattle.memory.specs.Model.{Model, In, Among, Fewer, SameSeen, WentDown, Loaded, Stored, Flushed, Restarted}
 use Rattle.memory.specs.Stores.{Words, word, put, values_at, Made}
 use Rattle.memory.specs.declared.fault.Fault.{Fault}
@@ -12,9 +12,6 @@ use Rattle.waiting.specs.Waits.{newest, waiting_value, value_of, leaving, holdin
 use Rattle.waiting.proofs.Newest.{Held, held, left, pushed, newest-some, newest-none, put-none}
 use Rattle.layers.specs.Layers.{cache_model}
 use Rattle.layers.specs.StoredAll.{StoredAll, unless_outside}
-
-pub not-ok : (r : Result Unit Fault) (f : Fault) → r ≡ Err f → is_ok r ≡ true → ⊥
-not-ok r f e ok = up-down (is_ok r) ok (ap is_ok e)
 
 -- ---- the memory below alone changed
 
@@ -79,9 +76,6 @@ module _ (ws : List Word) (k : ℕ) (m n o : Model) (q : Result Unit Fault) (lt 
       go : (x : Fault) → StoredAll n (get_or ws k (word 0 0) ∷ []) (Err x) o → StoredAll m ws (Err x) o
       go Down h = (subst (λ xs. Made m xs o) (take-append-drop (k + 1) ws) (made-cut (drop (k + 1) ws) next h.1), h.1)
       go Outside h = absurd h
-
-pub all-stored : (ws : List Word) (k : ℕ) (m n : Model) → length ws ≤ k → Made m (take k ws) n × (m.up ≡ true → n.up ≡ true) → StoredAll m ws (Ok tt) n
-all-stored ws k m n le h = (subst (λ xs. Made m xs n) (take_all k ws le) h.0, h.1)
 
 -- ---- words that went below
 

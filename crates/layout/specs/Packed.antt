@@ -1,8 +1,8 @@
 -- How a root, a state, a mark and a piece stand in a word.
-use Rattle.std.specs.Prelude.{◌≡◌, ℕ, ◌/◌, ◌%◌, ◌^◌, ◌<◌, ◌==◌, List, ◌++◌, codes, Result, MatchResult}
+use Rattle.std.specs.Prelude.{◌≡◌, ℕ, ◌/◌, ◌%◌, ◌^◌, ◌<◌, true, false, ◌==◌, List, ◌++◌, codes, Option, MatchOption, Result, MatchResult}
 use Rattle.std.specs.Fmt.{decimal}
 use Rattle.layout.specs.Image.{map_of, length_of}
-use Rattle.layout.specs.Log.{piece_of}
+use Rattle.layout.specs.Log.{no_piece, piece_of}
 use Rattle.layout.specs.declared.root.Root.{Root}
 use Rattle.layout.specs.declared.log.LogState.{LogState}
 use Rattle.layout.specs.declared.log.LogState.TheVariants.{Free, Commit, Checkpoint}
@@ -45,6 +45,10 @@ pub record MarkWord (mark : Mark) (word : ℕ) : Type 0 where
   pub slot : word % 2 ^ 8 ≡ mark.slot
   pub follow : (word / 2 ^ 8 % 2 == 1) ≡ mark.follow
   pub small : word < 2 ^ 9
+
+-- the piece that a word tells of, or none
+abbrev pub PieceIn : ℕ → Option Piece → Type 0
+PieceIn word piece = MatchOption piece (no_piece word ≡ true) (λ p. (no_piece word ≡ false) × (p.block ≡ (piece_of word).block) × (p.first ≡ (piece_of word).first) × (p.count ≡ (piece_of word).count))
 
 -- the word of a piece, with zeros above bit 31
 pub record PieceWord (piece : Piece) (word : ℕ) : Type 0 where

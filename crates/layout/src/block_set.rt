@@ -1,10 +1,10 @@
 ghost use Rattle.std.specs.Prelude.{◌≡◌, ℕ, false, not, ◌&&◌, ◌||◌, ◌==◌, nat_lt};
 ghost use Rattle.layout.specs.BlockSet.{has};
 
-// the most blocks that a set can have
-const MOST_BLOCKS: u64 = 4096;
+use crate::place::MOST_BLOCKS;
 
-// A set of blocks: block b is in it if bit (b mod 64) of word (b / 64) is one.
+// A set of blocks: block b is in it if bit (b mod 64) of word (b / 64) is one. It has 512 bytes; a `bool` for each block would take eight
+// times that.
 #[derive(Drop)]
 pub struct BlockSet {
     words: [u64; 64],

@@ -1,6 +1,5 @@
-ghost use Rattle.std.specs.Prelude.{◌≡◌, true, false, Some, MatchOption};
-ghost use Rattle.layout.specs.Log.{no_piece, piece_of};
-ghost use Rattle.layout.specs.Packed.{state_number, StateIn, unknown_text, MarkIn, MarkWord, PieceWord};
+ghost use Rattle.std.specs.Prelude.{◌≡◌, Some};
+ghost use Rattle.layout.specs.Packed.{state_number, StateIn, unknown_text, MarkIn, MarkWord, PieceIn, PieceWord};
 
 use std::error::Error;
 use std::fmt;
@@ -98,7 +97,7 @@ pub struct Piece {
 impl Piece {
     // Takes the block from bits 0 to 15, the first word from bits 16 to 23 and the count from bits 24 to 31; none if all are zero, which is no error.
     pub fn from_word(word: u64) -> Option<Piece>
-        ensures { MatchOption result (no_piece word ≡ true) (λ p. (no_piece word ≡ false) × (p.block ≡ (piece_of word).block) × (p.first ≡ (piece_of word).first) × (p.count ≡ (piece_of word).count)) }
+        ensures { PieceIn word result }
     {
         if word & 0xffff_ffff == 0 {
             return None;

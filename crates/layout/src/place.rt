@@ -4,7 +4,10 @@ ghost use Rattle.std.specs.Prelude.{◌≡◌, ◌/◌, ◌%◌};
 pub const BLOCK_WORDS: u64 = 32;
 
 // the bytes of a block
-const BLOCK_BYTES: u64 = 256;
+pub const BLOCK_BYTES: u64 = 256;
+
+// the most blocks of a memory, and of a set
+pub const MOST_BLOCKS: u64 = 4096;
 
 // the word that holds the count of blocks
 pub const BLOCK_COUNT: u64 = 0;
@@ -32,6 +35,9 @@ pub const OLD_END: u64 = 48;
 
 // the first word of the sixteen slots; the name word of a slot is followed by its root word
 pub const SLOTS: u64 = 64;
+
+// the word after the last of the slots
+pub const SLOTS_END: u64 = 96;
 
 // The index of the block that a byte of a file lies in, and its place in the block.
 pub fn split(offset: u64) -> (u64, u64)

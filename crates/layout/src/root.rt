@@ -8,7 +8,8 @@ pub struct Root {
     pub length: u32,
 }
 
-// The lowest sixteen bits are the map's block, the upper half is the length.
+// The lowest sixteen bits are the map's block, the upper half is the length. The word zero is that of an empty file and tells of a root
+// too, so it is none of an `Option`'s.
 impl From<u64> for Root {
     ghost from_gives = { RootIn };
 

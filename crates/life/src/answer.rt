@@ -6,7 +6,8 @@ use image_check::refusal::Refusal;
 use std::error::Error;
 use std::fmt;
 
-// Why a call of a life was not done. A session can deny a command for one reason more, that no life has, so `console` has its own.
+// Why a call of a life was not done. A session can deny a command for one reason more, that no life has, so `console` has its own:
+// with this one inside it, each refusal there would be wrapped twice.
 #[derive(Clone, Copy, PartialEq, Eq, Debug)]
 pub enum Denial {
     // the store refused it

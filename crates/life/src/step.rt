@@ -11,7 +11,8 @@ use memory::memory::Memory;
 use store::read::read;
 use store::recover::recover;
 
-// Makes a call on a store, and keeps whether the store is ready; a read fills the whole buffer.
+// Makes a call on a store, and keeps whether the store is ready; a read fills the whole buffer. A session carries out like calls, but
+// by three states and with what it shows, so that one function for both would be told which of them asks.
 pub(crate) fn step<M: Memory>(
     memory: &mut M,
     ready: &mut bool,

@@ -39,7 +39,7 @@ impl<'a> ByteImage<'a> {
     }
 }
 
-// Stores a word at a place inside.
+// Stores a word at a place inside. Of the library's `as_chunks_mut` it is not known what the bytes are in the end, so this writes a range.
 fn set_word(bytes: &mut [u8], at: usize, value: u64)
     requires { at < words_in bytes.old }
     ensures { bytes.new ≡ with_word bytes.old at value }

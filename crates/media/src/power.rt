@@ -1,9 +1,10 @@
 ghost use Rattle.std.specs.Prelude.{◌≡◌, true, false, None};
-ghost use Rattle.media.specs.Power.{taken, spent, answer, power_after};
+ghost use Rattle.media.specs.Power.{spent, answer, power_after};
 
 use memory::fault::Fault;
 
-// Whether there is power, and how many loads, stores and barriers are still taken before it is lost.
+// Whether there is power, and how many loads, stores and barriers are still taken before it is lost. A cut point can be set without
+// power, so the two stand beside each other.
 #[derive(Clone, Copy)]
 pub struct Power {
     pub up: bool,
@@ -23,22 +24,22 @@ impl Power {
     };
 
     // Takes a load, a store or a barrier, or loses power at it.
-    pub fn spend(&mut self) -> bool
-        ensures value { result ≡ taken self.old }
+    pub fn spend(&mut self) -> Result<(), Fault>
+        ensures value { result ≡ answer self.old true tt }
         ensures after { self.new ≡ spent self.old }
     {
         if !self.up {
-            return false;
+            return Err(Fault::Down);
         }
         match self.cut {
-            None => true,
+            None => Ok(()),
             Some(0) => {
                 self.up = false;
-                false
+                Err(Fault::Down)
             }
             Some(left) => {
                 self.cut = Some(left - 1);
-                true
+                Ok(())
             }
         }
     }
@@ -51,9 +52,6 @@ impl Power {
         if self.up && !inside {
             return Err(Fault::Outside);
         }
-        if !self.spend() {
-            return Err(Fault::Down);
-        }
-        Ok(())
+        self.spend()
     }
 }

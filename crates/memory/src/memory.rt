@@ -11,7 +11,8 @@ pub trait Memory {
     // the value seen in a word is always among its candidates
     ghost seen_may: { (s : Self) → SeenMay (model s) };
 
-    // the name of the bytes that the memory is lent, or 0: no call changes it
+    // the name of the bytes that the memory is lent, or 0: no call changes it, and each says so for itself, since what two models
+    // have to do with each other is told by their words alone
     ghost lent: { Self → ℕ };
 
     // How many words there are.

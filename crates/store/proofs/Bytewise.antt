@@ -1,5 +1,5 @@
 -- A file of the table as a read finds it, and its bytes as they are loaded. Assumes nothing.
-use Rattle.std.proofs.Common.{◌≡◌, ℕ, ◌+◌, ◌-◌, ◌*◌, ◌/◌, ◌%◌, ◌^◌, ◌<◌, ◌≤◌, min, Bool, true, false, cond, eqb, List, [], ◌∷◌, ◌++◌, length, take, drop, replicate, Err, sym, refl, ap, ◌∙◌, subst, inl, inr, ⊎_elim, arith}
+use Rattle.std.proofs.Common.{◌≡◌, ℕ, ◌+◌, ◌-◌, ◌*◌, ◌/◌, ◌%◌, ◌^◌, ◌<◌, ◌≤◌, min, Bool, true, false, cond, eqb, List, [], ◌∷◌, ◌++◌, length, get_or, take, drop, replicate, Err, sym, refl, ap, ◌∙◌, subst, inl, inr, ⊎_elim, arith}
 use borrow.Rule.Slice.PartMut.{put_mid}
 use lib.Bits.{bit_and}
 use Rattle.std.proofs.lemmas.Nat.{and_mask}
@@ -8,7 +8,7 @@ use Rattle.std.proofs.lemmas.List.{append-nil, length-take, length-drop, length-
 use Rattle.std.proofs.lemmas.Slice.{take-put_mid_below}
 use Rattle.std.proofs.lemmas.Bool.{cases_Bool}
 use Rattle.std.proofs.lemmas.Bool.Decides.{nat_tests}
-use Rattle.memory.specs.Bytes.{byte_of}
+use Rattle.memory.specs.Bytes.{byte_of, bytes_of}
 use Rattle.memory.specs.Model.{Model}
 use Rattle.memory.specs.Stores.{Words}
 use Rattle.layout.specs.Image.{Same, in_block, root_word, map_of, length_of, file_byte, file_bytes, table_of}
@@ -37,6 +37,10 @@ use Rattle.store.specs.declared.file.OpenFile.{OpenFile}
 use Rattle.store.proofs.Calling.{Named, Known, in-order, taken-call, looked-cut, cut-call, refused-by}
 use Rattle.store.proofs.Finding.{found-bytes}
 use Rattle.store.proofs.Recovery.{looked-settled}
+
+-- a byte of a word, taken from its eight bytes
+pub byte-indexed : (word k : ℕ) (bytes : List ℕ) → bytes ≡ bytes_of word → k < 8 → get_or bytes k 0 ≡ bit_and (word / 2 ^ (8 * k)) 255
+byte-indexed word k bytes is lt = ap (λ bs. get_or bs k 0) is ∙ get_or-map-range_with_len (byte_of word) 0 8 k k 0 lt (omega arith) ∙ sym (and_mask (word / 2 ^ (8 * k)) 8)
 
 -- a byte of the word that was loaded last
 pub byte-loaded : {m k : Model} (map at b place block word : ℕ) → b ≡ at / 256 → place ≡ at % 256

@@ -1,5 +1,5 @@
 -- What the look_up of a name says of the files, and the changes of a slot that the calls make. Assumes nothing.
-use Rattle.std.proofs.Common.{◌≡◌, ℕ, ◌+◌, ◌*◌, ◌/◌, ◌<◌, ◌≤◌, Bool, true, false, cond, not, ◌&&◌, eqb, leb, ◌⊎◌, List, [], ◌∷◌, ◌++◌, length, take, is_some, Some, None, Option, MatchOption, sym, refl, ap, ◌∙◌, subst, inl, inr, arith}
+use Rattle.std.proofs.Common.{◌≡◌, ◌≢◌, ℕ, ◌+◌, ◌*◌, ◌/◌, ◌<◌, ◌≤◌, Bool, true, false, cond, not, ◌&&◌, eqb, leb, ◌⊎◌, List, [], ◌∷◌, ◌++◌, length, take, is_some, Some, None, Option, MatchOption, sym, refl, ap, ◌∙◌, subst, inl, inr, arith}
 use Rattle.std.proofs.lemmas.Bool.{true≢false, false≢true, le-leb, lt-leb, eq-eqb, ne_eqb}
 use Rattle.memory.specs.Bytes.{bytes_of}
 use Rattle.memory.specs.Model.{Model}
@@ -55,8 +55,8 @@ module _ (w : Words) (d : Directory) (lists : Lists w d) where
   pub empty-slot : (s : ℕ) → s < 16 → (slot_at d s).name ≡ 0 → named w s ≡ false
   empty-slot s lt is = ap not (eq-eqb (name_word w s) 0 (sym (lists.names s lt) ∙ is))
 
-  pub all_named : Missing d 0 → (s : ℕ) → s < 16 → named w s ≡ true
-  all_named h s lt = ap not (ne_eqb (name_word w s) 0 (λ z. h s lt (ap bytes_of (lists.names s lt ∙ z))))
+  pub all_named : ((s : ℕ) → s < 16 → (slot_at d s).name ≢ 0) → (s : ℕ) → s < 16 → named w s ≡ true
+  all_named h s lt = ap not (ne_eqb (name_word w s) 0 (λ z. h s lt (lists.names s lt ∙ z)))
 
   -- the slot of a name
   module _ (x : ℕ) (name : List ℕ) (bytes : bytes_of x ≡ name) (formed : well_formed name ≡ true) where

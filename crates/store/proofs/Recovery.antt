@@ -16,7 +16,8 @@ use Rattle.images.proofs.Recovering.{Torn, undone-same, recovered-idle, recovere
 use Rattle.image_check.specs.Reading.{Looked, LookedDown}
 use Rattle.store.specs.Phase.{Drawn, AllMade, CutIn}
 use Rattle.layout.specs.declared.log.Piece.{Piece}
-use Rattle.store.specs.LogEntry.{PieceIn, Tells, putting}
+use Rattle.layout.specs.Packed.{PieceIn}
+use Rattle.store.specs.LogEntry.{Tells, putting}
 use Rattle.store.specs.Recover.{RecoverDone, RecoverCut, Puttable, taken_back, TakenBack}
 use Rattle.store.specs.declared.log_entry.LogEntry.{LogEntry}
 use Rattle.store.proofs.Phases.{put-copies, looked-made, done_more, so_far, cut-more, cut-looked}

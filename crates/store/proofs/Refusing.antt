@@ -15,11 +15,11 @@ use Rattle.image_check.proofs.Looking.{looked-more, looked-down, refused-map}
 use Rattle.image_check.proofs.Sizing.{size-blocks}
 use Rattle.layout.specs.Image.{root_word}
 use Rattle.layout.specs.Log.{state, log_slot, GoodPiece, Sound}
-use Rattle.layout.specs.Packed.{state_number}
+use Rattle.layout.specs.Packed.{state_number, PieceIn}
 use Rattle.layout.specs.declared.log.LogState.{LogState}
 use Rattle.layout.specs.declared.log.LogState.TheVariants.{Free, Commit, Checkpoint}
 use Rattle.layout.specs.declared.log.Piece.{Piece}
-use Rattle.store.specs.LogEntry.{PieceIn, Tells}
+use Rattle.store.specs.LogEntry.{Tells}
 use Rattle.store.specs.Recover.{Puttable, Undoable, taken_back, TakenBack, Recovering, Recovers}
 use Rattle.store.specs.Phase.{AllMade, CutIn}
 use Rattle.store.specs.declared.log_entry.LogEntry.{LogEntry}

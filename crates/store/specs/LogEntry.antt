@@ -1,16 +1,12 @@
 -- The log entry as code holds it.
-use Rattle.std.specs.Prelude.{◌≡◌, ℕ, ◌+◌, ◌*◌, true, false, List, [], Option, Some, None, MatchOption}
+use Rattle.std.specs.Prelude.{◌≡◌, ℕ, ◌+◌, ◌*◌, List, [], Option, Some, None}
 use Rattle.memory.specs.Stores.{Words}
 use Rattle.memory.specs.declared.word.Word.{Word}
-use Rattle.layout.specs.Log.{state, log_slot, follows, old_root, no_piece, piece_of}
-use Rattle.layout.specs.Packed.{state_number}
+use Rattle.layout.specs.Log.{state, log_slot, follows, old_root}
+use Rattle.layout.specs.Packed.{state_number, PieceIn}
 use Rattle.layout.specs.declared.log.Piece.{Piece}
 use Rattle.store.specs.Phase.{copies}
 use Rattle.store.specs.declared.log_entry.LogEntry.{LogEntry}
-
--- the piece that a word tells of, or none
-abbrev pub PieceIn : ℕ → Option Piece → Type 0
-PieceIn x piece = MatchOption piece (no_piece x ≡ true) (λ p. (no_piece x ≡ false) × (p.block ≡ (piece_of x).block) × (p.first ≡ (piece_of x).first) × (p.count ≡ (piece_of x).count))
 
 -- the log entry of an image
 pub record Tells (w : Words) (e : LogEntry) : Type 0 where

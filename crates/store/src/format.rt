@@ -6,11 +6,8 @@ use crate::phase::{clear_run, persist_word, settle, store_word};
 use image_check::refusal::Refusal;
 use image_check::size::blocks_in;
 use layout::log::LogState;
-use layout::place::{BLOCK_COUNT, LOG_STATE, SLOTS};
+use layout::place::{BLOCK_COUNT, LOG_STATE, SLOTS, SLOTS_END};
 use memory::memory::Memory;
-
-// the word after the last of the slots
-const SLOTS_END: u64 = 96;
 
 // The phase that clears the state of the log and the slots.
 fn clear<M: Memory>(memory: &mut M) -> Result<(), Refusal>

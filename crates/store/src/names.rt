@@ -2,7 +2,7 @@ ghost use Rattle.std.specs.Prelude.{◌≡◌, []};
 ghost use Rattle.layout.specs.Table.{create, rename, remove};
 ghost use Rattle.store.specs.Calls.{SlotCall, reply};
 
-use crate::open::{find_slot, open, open_file};
+use crate::open::{find_empty, find_slot, open, open_file};
 use crate::phase::persist_word;
 use image_check::refusal::Refusal;
 use layout::name::{Name, is_well_formed, name_word};
@@ -22,7 +22,7 @@ pub fn create<M: Memory>(memory: &mut M, name: Name) -> Result<(), Refusal>
     if find_slot(&directory, word).is_some() {
         return Err(Refusal::NameTaken);
     }
-    let Some(slot) = find_slot(&directory, EMPTY) else {
+    let Some(slot) = find_empty(&directory) else {
         return Err(Refusal::TooManyFiles);
     };
     persist_word(memory, SLOTS + (2 * slot as u64 + 1), 0)?;

@@ -30,11 +30,18 @@ pub(crate) fn open<M: Memory>(memory: &mut M, name: &Name) -> Result<Directory, 
     Ok(survey.directory)
 }
 
-// The first slot that has the name word; an empty slot has the name word zero.
+// The first slot that has the name word.
 pub(crate) fn find_slot(directory: &Directory, name: u64) -> Option<usize>
     ensures { MatchOption result ((s : ℕ) → s < 16 → bytes_of (slot_at directory.now s).name ≢ bytes_of name) (λ s. (s < 16) × ((slot_at directory.now s).name ≡ name)) }
 {
     directory.slots.iter().position(|slot| slot.name == name)
+}
+
+// The first slot that is empty.
+pub(crate) fn find_empty(directory: &Directory) -> Option<usize>
+    ensures { MatchOption result ((s : ℕ) → s < 16 → (slot_at directory.now s).name ≢ 0) (λ s. (s < 16) × ((slot_at directory.now s).name ≡ 0)) }
+{
+    directory.slots.iter().position(|slot| slot.is_empty())
 }
 
 // The file of that name, for a call on it.

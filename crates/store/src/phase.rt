@@ -15,6 +15,8 @@ pub(crate) fn store_word<M: Memory>(memory: &mut M, at: u64, value: u64) -> Resu
     Ok(memory.store(at, value)?)
 }
 
+// Power may be lost at each step of a routine, so that a memory is up is asked of those that go on with it, and held by no type.
+
 // Stores zero in each word from `first` to just before `end`, in a memory that is up.
 pub(crate) fn clear_run<M: Memory>(memory: &mut M, first: u64, end: u64) -> Result<(), Refusal>
     requires up { (M.Memory.model memory.old).up ≡ true }

@@ -21,7 +21,7 @@ fn load_byte<M: Memory>(memory: &mut M, root: Root, at: u64) -> Result<u8, Refus
     let (k, place) = split(at);
     let block = memory.load(BLOCK_WORDS * u64::from(root.map) + k)?;
     let word = memory.load(BLOCK_WORDS * block + place / 8)?;
-    Ok(((word >> (8 * (place % 8))) & 0xff) as u8)
+    Ok(word.to_le_bytes()[(place % 8) as usize])
 }
 
 // Fills a slice with the bytes of a file from an offset on; the file has that many, and the memory is up.

@@ -44,7 +44,8 @@ impl<M: Memory> Unread<M> {
         format(&mut self.memory)
     }
 
-    // Makes a ready store and tells whether pieces were put back; refused, it gives the unread store back, in either arm a moved one.
+    // Makes a ready store and tells whether pieces were put back; refused, it gives the unread store back. Each arm moves the memory into
+    // another type, so no `?` can stand for the match.
     pub fn recover(self) -> Result<(Ready<M>, bool), (Unread<M>, Refusal)>
         ensures recovers { Recovers (M.Memory.model self.memory) (answered result) (M.Memory.model (left result)) }
         ensures lent { M.Memory.lent (left result) ≡ M.Memory.lent self.memory }

@@ -11,7 +11,7 @@ pub(crate) fn image_in<'a>(rt: &impl Abort, bytes: &'a mut [u8]) -> ByteImage<'a
     memory
 }
 
-// Stores words at their places. Each crate of tests has its own: a public one would want a contract, its proof and an edit.
+// Stores words at their places. Each crate of tests has its own: shared, these five lines would want a contract, its proof and an edit.
 pub(crate) fn store_words<M: Memory>(memory: &mut M, words: &[(u64, u64)]) -> Result<(), Fault> {
     for (at, value) in words {
         memory.store(*at, *value)?;

@@ -4,7 +4,7 @@ use image_check::refusal::Refusal;
 use std::process::Abort;
 use std::test::Fail;
 
-// The number of the first rule that the check finds broken in that image with some words changed.
+// The first rule that the check finds broken in that image with some words changed, by the number that a session prints.
 fn broken_rule(rt: &impl Abort, changes: &[(u64, u64)]) -> Result<Option<u8>, Fail> {
     let mut bytes = [0; 1536];
     let mut memory = image_in(rt, &mut bytes);

@@ -3,6 +3,7 @@ ghost use Rattle.std.specs.Prelude.{◌≡◌, ◌<◌, ◌≤◌, [], length, I
 use memory::word::Word;
 
 // The words that wait in a cache, which has no heap: of eight words those from `free` on, the oldest first.
+// The kit's `ArrayVec` has no heap either, but it is not `Copy`.
 #[derive(Clone, Copy)]
 pub struct Waiting {
     words: [Word; 8],

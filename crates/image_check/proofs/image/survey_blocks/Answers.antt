@@ -1,6 +1,5 @@
 use Rattle.std.proofs.Common.{subst, arith}
 use Rattle.layout.specs.Log.{Sound}
-use Rattle.image_check.specs.Check.{Surveyed}
 use Rattle.image_check.proofs.Checking.{Below, below-one, below-next, surveyed-exit}
 use Rattle.image_check.proofs.image.survey_blocks.Given as given
 use Rattle.image_check.proofs.image.survey_blocks.Goals as goal
@@ -18,16 +17,14 @@ pub returns-in_err-check_maps-clause-surveyed : goal.returns-in_err-check_maps-c
 returns-in_err-check_maps-clause-surveyed g c =
     let o = g.M.Memory.model c.check_maps.new.memory in
     let r = c.from_residual-in_err-check_maps in
-    subst (λ b. Surveyed b g.first r.result o) c.in_ok-files.ensures.listed.2
-    (surveyed-exit 4 c.in_ok-files.files.blocks g.first o _ r.result r.ensures.1 (omega arith) (omega arith) (before g (goal.at.returns-in_err-check_maps-clause-surveyed g c).In_ok-files) c.in_err-check_maps.ensures.tries)
+    surveyed-exit 4 c.in_ok-files.files.blocks c.args.blocks g.first o _ r.result c.in_ok-files.ensures.listed.2 r.ensures.1 (omega arith) (omega arith) (before g (goal.at.returns-in_err-check_maps-clause-surveyed g c).In_ok-files) c.in_err-check_maps.ensures.tries
 
 pub returns-in_err-used-clause-surveyed : goal.returns-in_err-used-clause-surveyed
 returns-in_err-used-clause-surveyed g c =
     let o = g.M.Memory.model c.used_blocks.new.memory in
     let r = c.from_residual-in_err-used in
     let four = below-next 4 _ g.first.seen (before g (goal.at.returns-in_err-used-clause-surveyed g c).In_ok-files) c.in_ok-check_maps.ensures.tries.1 in
-    subst (λ b. Surveyed b g.first r.result o) c.in_ok-files.ensures.listed.2
-    (surveyed-exit 5 c.in_ok-files.files.blocks g.first o _ r.result r.ensures.1 (omega arith) (omega arith) four c.in_err-used.ensures.tries)
+    surveyed-exit 5 c.in_ok-files.files.blocks c.args.blocks g.first o _ r.result c.in_ok-files.ensures.listed.2 r.ensures.1 (omega arith) (omega arith) four c.in_err-used.ensures.tries
 
 pub returns-in_err-check_entry-clause-surveyed : goal.returns-in_err-check_entry-clause-surveyed
 returns-in_err-check_entry-clause-surveyed g c =
@@ -35,8 +32,7 @@ returns-in_err-check_entry-clause-surveyed g c =
     let r = c.from_residual-in_err-check_entry in
     let four = below-next 4 _ g.first.seen (before g (goal.at.returns-in_err-check_entry-clause-surveyed g c).In_ok-files) c.in_ok-check_maps.ensures.tries.1 in
     let five = below-next 5 _ g.first.seen four c.in_ok-used.ensures.tries.1 in
-    subst (λ b. Surveyed b g.first r.result o) c.in_ok-files.ensures.listed.2
-    (surveyed-exit 6 c.in_ok-files.files.blocks g.first o _ r.result r.ensures.1 (omega arith) (omega arith) five c.in_err-check_entry.ensures.tries)
+    surveyed-exit 6 c.in_ok-files.files.blocks c.args.blocks g.first o _ r.result c.in_ok-files.ensures.listed.2 r.ensures.1 (omega arith) (omega arith) five c.in_err-check_entry.ensures.tries
 
 pub returns-clause-surveyed : goal.returns-clause-surveyed
 returns-clause-surveyed g c =

@@ -1,6 +1,6 @@
 use Rattle.std.proofs.Common.{◌%◌, ◌^◌, ◌/◌, eqb, refl, ap, ◌∙◌, subst, inl, inr, arith, rules}
 use Rattle.image_check.proofs.Looking.{load-reads, load-down}
-use Rattle.store.specs.LogEntry.{PieceIn}
+use Rattle.layout.specs.Packed.{PieceIn}
 use Rattle.store.proofs.log_entry.load_log_entry.Goals as goal
 
 pub returns-in_err-load-clause-reads : goal.returns-in_err-load-clause-reads

@@ -1,6 +1,6 @@
-use Rattle.std.proofs.Common.{refl, inl, inr, rules}
+use Rattle.std.proofs.Common.{◌%◌, refl, ◌∙◌, inl, inr, arith, rules}
 use Rattle.image_check.proofs.Looking.{load-reads, load-down}
-use Rattle.store.proofs.Bytewise.{byte-loaded, map_within, block_within, word_within}
+use Rattle.store.proofs.Bytewise.{byte-indexed, byte-loaded, map_within, block_within, word_within}
 use Rattle.store.proofs.read.load_byte.Goals as goal
 
 pub returns-in_err-block-clause-reads : goal.returns-in_err-block-clause-reads
@@ -31,4 +31,4 @@ returns-clause-reads g c =
     let two = load-reads _ _ (inr one.0) within c.in_ok-word.ensures.gives in
     let block = block_within c.args.root c.args.at map k c.requires.file c.requires.within c.from.ensures is in
     let byte = byte-loaded map c.args.at k place c.in_ok-block.block c.in_ok-word.word is c.split-k.ensures.place block one.1 one.0 c.in_ok-word.ensures.gives.3 in
-    (two.0, rw c.from.ensures at byte)
+    (two.0, rw c.from.ensures at (byte-indexed c.in_ok-word.word (place % 8) c.to_le_bytes.result (search rules) (omega arith) ∙ byte))

@@ -6,8 +6,7 @@ use Rattle.image_check.proofs.file.File.check_piece.Goals as goal
 
 pub returns-in_err-any_block-clause-tries : goal.returns-in_err-any_block-clause-tries
 returns-in_err-any_block-clause-tries g c =
-    let h = c.in_err-any_block.ensures.reads g.first c.requires.1.0 in
-    tries-lost g.first (g.M.Memory.model c.any_block.new.memory) _ _ _ _ c.from_residual.result c.from_residual.ensures.1 h.1 h.0
+    tries-lost g.first (g.M.Memory.model c.any_block.new.memory) _ _ _ _ c.from_residual.result c.from_residual.ensures.1 (c.in_err-any_block.ensures.reads g.first c.requires.1.0)
 
 pub returns-then-not-branch-clause-tries : goal.returns-then-not-branch-clause-tries
 returns-then-not-branch-clause-tries g c =

@@ -10,4 +10,4 @@ abbrev pub invariant-loop-slot : goal.invariant-loop-slot
 invariant-loop-slot g l =
     Looked g.first (g.M.Memory.model l.memory)
     × (g.M.Memory.lent l.memory ≡ g.M.Memory.lent l.initial.memory)
-    × ((s : ℕ) → s < l.slot → MapsGood l.self.blocks g.first.seen s)
+    × ((s : ℕ) → s < l.slot-index → MapsGood l.self.blocks g.first.seen s)

@@ -12,32 +12,32 @@ use Rattle.image_check.proofs.files.Files.used_blocks.Goals.{In-Some}
 
 pub loop-slot-preserved-in_default : goal.loop-slot-preserved-in_default
 loop-slot-preserved-in_default g c =
-    let s = c.loop-slot.slot in
+    let s = c.loop-slot.slot-index in
     let slot = slot_at c.args.self.now.directory s in
     let lists = c.requires.1.1.0.lists in
-    let none = slot-none g.first.seen s slot.name slot.root (lists.names s c.loop-slot-test.true) (lists.roots s c.loop-slot-test.true) (inl (c.in_default.ensures c.loop-slot-test.true)) in
+    let none = slot-none g.first.seen s slot.name slot.root (lists.names s c.loop-slot-test.true) (lists.roots s c.loop-slot-test.true) (inl c.in_default.ensures) in
     (c.loop-slot.invariant.0, c.loop-slot.invariant.1, held-same (slot_blocks g.first.seen) s c.loop-slot.set none c.loop-slot.invariant.2)
 
 pub loop-slot-preserved-then-file-eq0 : goal.loop-slot-preserved-then-file-eq0
 loop-slot-preserved-then-file-eq0 g c =
-    let s = c.loop-slot.slot in
+    let s = c.loop-slot.slot-index in
     let slot = slot_at c.args.self.now.directory s in
     let lists = c.requires.1.1.0.lists in
-    let none = slot-none g.first.seen s slot.name slot.root (lists.names s c.loop-slot-test.true) (lists.roots s c.loop-slot-test.true) (inr (sym c.in-Some.ensures.2 ∙ c.if-file-eq0.true)) in
+    let none = slot-none g.first.seen s slot.name slot.root (lists.names s c.loop-slot-test.true) (lists.roots s c.loop-slot-test.true) (inr (sym c.in-Some.ensures.1 ∙ c.if-file-eq0.true)) in
     (c.loop-slot.invariant.0, c.loop-slot.invariant.1, held-same (slot_blocks g.first.seen) s c.loop-slot.set none c.loop-slot.invariant.2)
 
 -- the blocks of a slot that has a file
-here : (g : given.Over) (c : In-Some g) → (c.in-Some.file.root ≡ 0 → ⊥) → slot_blocks g.first.seen c.loop-slot.slot ≡ map_of c.in-Some.file.root ∷ file_blocks g.first.seen c.in-Some.file.root
+here : (g : given.Over) (c : In-Some g) → (c.in-Some.file.root ≡ 0 → ⊥) → slot_blocks g.first.seen c.loop-slot.slot-index ≡ map_of c.in-Some.file.root ∷ file_blocks g.first.seen c.in-Some.file.root
 here g c some =
-    let s = c.loop-slot.slot in
+    let s = c.loop-slot.slot-index in
     let slot = slot_at c.args.self.now.directory s in
     let lists = c.requires.1.1.0.lists in
     let known = c.in-Some.ensures in
-    slot-file g.first.seen s slot.name c.in-Some.file.root (lists.names s c.loop-slot-test.true) (known.2 ∙ lists.roots s c.loop-slot-test.true) known.1 some
+    slot-file g.first.seen s slot.name c.in-Some.file.root (lists.names s c.loop-slot-test.true) (known.1 ∙ lists.roots s c.loop-slot-test.true) known.0 some
 
 pub returns-in_err-add_blocks-clause-tries : goal.returns-in_err-add_blocks-clause-tries
 returns-in_err-add_blocks-clause-tries g c =
-    let s = c.loop-slot.slot in
+    let s = c.loop-slot.slot-index in
     let f = slot_blocks g.first.seen in
     let before = flat_map f (range_with_len 0 s) in
     let blocks = here g (goal.at.returns-in_err-add_blocks-clause-tries g c).In-Some c.if-file-eq0.false in
@@ -47,7 +47,7 @@ returns-in_err-add_blocks-clause-tries g c =
 
 pub loop-slot-preserved : goal.loop-slot-preserved
 loop-slot-preserved g c =
-    let s = c.loop-slot.slot in
+    let s = c.loop-slot.slot-index in
     let f = slot_blocks g.first.seen in
     let blocks = here g (goal.at.loop-slot-preserved g c).In-Some c.if-file-eq0.false in
     let h = c.in_ok-add_blocks.ensures in
@@ -56,6 +56,6 @@ loop-slot-preserved g c =
 
 pub returns-clause-tries : goal.returns-clause-tries
 returns-clause-tries g c =
-    let end : c.loop-slot.slot ≡ 16 = omega arith in
+    let end : c.loop-slot.slot-index ≡ 16 = omega arith in
     let all = subst (λ s. HasOnce c.loop-slot.set (flat_map (slot_blocks g.first.seen) (range_with_len 0 s))) end c.loop-slot.invariant.2 in
     (c.loop-slot.invariant.0, all.1, all.0)

@@ -12,4 +12,4 @@ abbrev pub invariant-loop-slot : goal.invariant-loop-slot
 invariant-loop-slot g l =
     Looked g.first (g.M.Memory.model l.memory)
     × (g.M.Memory.lent l.memory ≡ g.M.Memory.lent l.initial.memory)
-    × HasOnce l.set (flat_map (slot_blocks g.first.seen) (range_with_len 0 l.slot))
+    × HasOnce l.set (flat_map (slot_blocks g.first.seen) (range_with_len 0 l.slot-index))

@@ -1,22 +1,23 @@
 -- Letters and then zeros, byte by byte. Assumes nothing.
-use Rattle.std.proofs.Common.{◌≡◌, ℕ, ◌+◌, true, List, [], ◌∷◌, length, get_or, drop, eqb, arith}
-use Rattle.std.specs.List.{prefix_len, list_all}
+use Rattle.std.proofs.Common.{◌≡◌, ℕ, Bool, true, false, cond, List, [], ◌∷◌, length, get_or, drop, refl, arith}
 use Rattle.std.proofs.lemmas.Bool.Decides.{nat_tests}
 use Rattle.layout.specs.Names.{letter, zeros, letters_then_zeros, well_formed}
 
-drop-next : (n b : ℕ) (bs : List ℕ) → drop (1 + n) (b ∷ bs) ≡ drop n bs
-drop-next n b bs = grind arith
+-- these bytes may end a name, after a zero or after letters only
+abbrev pub ends : Bool → List ℕ → Bool
+ends ended bs = cond ended (zeros bs) (letters_then_zeros bs)
 
-zeros-all : (bs : List ℕ) → zeros bs ≡ list_all (λ b. eqb b 0) bs
-zeros-all [] = grind arith
-zeros-all (b ∷ bs) = grind (arith, zeros-all bs)
+pub ends-zero : (ended next : Bool) (b : ℕ) (bs : List ℕ) → b ≡ 0 → next ≡ true → ends next bs ≡ ends ended (b ∷ bs)
+ends-zero ended next b bs e n = grind (arith, nat_tests)
 
--- what stands after the letters decides
-after_letters : (bs : List ℕ) → letters_then_zeros bs ≡ list_all (λ b. eqb b 0) (drop (prefix_len letter bs) bs)
-after_letters [] = grind arith
-after_letters (b ∷ bs) = grind (arith, nat_tests, drop-next, zeros-all (b ∷ bs), after_letters bs)
+pub ends-letter : (ended next : Bool) (b : ℕ) (bs : List ℕ) → (b ≡ 0 → ⊥) → ended ≡ false → letter b ≡ true → next ≡ ended → ends next bs ≡ ends ended (b ∷ bs)
+ends-letter ended next b bs ne e l n = grind (arith, nat_tests)
 
--- of eight bytes that begin with a letter, those after the letters decide
-pub formed : (bs : List ℕ) → length bs ≡ 8 → letter (get_or bs 0 0) ≡ true → well_formed bs ≡ list_all (λ b. eqb b 0) (drop (prefix_len letter bs) bs)
+pub ends-none : (ended : Bool) → ends ended [] ≡ true
+ends-none true = refl
+ends-none false = refl
+
+-- of eight bytes that begin with a letter, the other seven decide
+pub formed : (bs : List ℕ) → length bs ≡ 8 → letter (get_or bs 0 0) ≡ true → well_formed bs ≡ letters_then_zeros (drop 1 bs)
 formed [] long l = grind (arith, nat_tests)
-formed (b ∷ bs) long l = grind (arith, nat_tests, after_letters (b ∷ bs))
+formed (b ∷ bs) long l = grind (arith, nat_tests)

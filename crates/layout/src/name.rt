@@ -16,9 +16,18 @@ fn is_letter(byte: u8) -> bool
 pub fn is_well_formed(name: &[u8]) -> bool
     ensures { result ≡ well_formed name.now }
 {
-    name.len() == 8
-        && is_letter(name[0])
-        && name.iter().skip_while(|&&b| is_letter(b)).all(|&b| b == 0)
+    if name.len() != 8 || !is_letter(name[0]) {
+        return false;
+    }
+    let mut ended = false;
+    for &byte in &name[1..8] {
+        if byte == 0 {
+            ended = true;
+        } else if ended || !is_letter(byte) {
+            return false;
+        }
+    }
+    true
 }
 
 // The word that holds a name, its first byte lowest. Neither type is this crate's own, so it is a function and no `From`.

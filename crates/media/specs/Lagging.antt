@@ -1,15 +1,9 @@
 -- The lagging memory: the words seen and the words kept lie apart until a barrier.
-use Rattle.std.specs.Prelude.{ℕ, ◌/◌, ◌%◌, ◌^◌, Bool, cond, List, [], ◌∷◌, vec_items, vec_len, ◌==◌, slice_index_or, slice_set}
+use Rattle.std.specs.Prelude.{ℕ, ◌/◌, ◌%◌, ◌^◌, Bool, cond, List, [], ◌∷◌, vec_items, vec_len, ◌==◌, slice_set}
 use Rattle.memory.specs.Model.{Model}
+use Rattle.media.specs.Cells.{cell_at}
 use Rattle.media.specs.declared.lagging.Cell.{Cell}
 use Rattle.media.specs.declared.lagging.LaggingMemory.{LaggingMemory}
-
--- a cell with one word, both seen and kept
-abbrev pub both : ℕ → Cell
-both word = record { seen = word; kept = word }
-
-abbrev pub cell_at : List Cell → ℕ → Cell
-cell_at cells i = slice_index_or cells i (both 0)
 
 abbrev pub lagging_model : LaggingMemory → Model
 lagging_model s = record {

@@ -1,3 +1,4 @@
 pub mod ByteImage
+pub mod Cells
 pub mod Lagging
 pub mod Power

@@ -140,6 +140,10 @@ refused-call {X} {m} {n} {P} {missing} a e asks no_file opens = go (well_formed 
 pub slot-refused : {m n : Model} (a : Ask) (e : Refusal) → FileCall m a (refused_reply e) n → SlotCall m a (refused_reply e) n
 slot-refused a e call = record { call = call; settled = λ z. absurd (refused-some e z); only = λ z. absurd (refused-some e z) }
 
--- power was lost in the call
+-- power was lost in a call whose arguments are in order, on a memory whose size suits
+pub lost-call : {m n : Model} (a : Ask) (e : Refusal) → e ≡ PowerLost → early a ≡ None → suits m.count ≡ true → CallCut (m.count / 32) m a n → FileCall m a (refused_reply e) n
+lost-call {m} {n} a e p none t cut = subst (λ y. FileCall m a (refused_reply y) n) (sym p) (taken-call a (refuse 1) none t (inl (refl, cut)))
+
+-- so in one on a file that is known
 pub cut-call : {X : Type 0} {m k n : Model} {P : X → Type 0} {x : X} (a : Ask) (e : Refusal) → e ≡ PowerLost → Named a → Known m k (on a) P x → CallCut (m.count / 32) m a n → FileCall m a (refused_reply e) n
-cut-call {X} {m} {k} {n} a e p asks b cut = subst (λ y. FileCall m a (refused_reply y) n) (sym p) (taken-call a (refuse 1) (in-order a asks b.formed) b.suitable (inl (refl, cut)))
+cut-call a e p asks b cut = lost-call a e p (in-order a asks b.formed) b.suitable cut

@@ -1,5 +1,5 @@
 -- The last phase of a call that changes one slot: one word of the directory is stored and settled. Assumes nothing.
-use Rattle.std.proofs.Common.{◌≡◌, ℕ, ◌+◌, ◌*◌, ◌/◌, ◌<◌, ◌≤◌, cond, eqb, ◌⊎◌, List, [], ◌∷◌, Ok, Err, Result, sym, refl, ap, ◌∙◌, subst, inl, inr, ⊎_elim, arith}
+use Rattle.std.proofs.Common.{◌≡◌, ℕ, ◌+◌, ◌*◌, ◌/◌, ◌<◌, ◌≤◌, true, cond, eqb, ◌⊎◌, List, [], ◌∷◌, None, Ok, Err, Result, sym, refl, ap, ◌∙◌, subst, inl, inr, ⊎_elim, arith}
 use Rattle.std.proofs.lemmas.Bool.{cases_eq}
 use Rattle.memory.specs.Model.{Model, Settled}
 use Rattle.memory.specs.Stores.{Words, word, one, put, values_at}
@@ -8,17 +8,19 @@ use Rattle.memory.proofs.Putting.{up-down, in_either, one-here, one-other, put-a
 use Rattle.layout.specs.Image.{Same, files_of, table_of}
 use Rattle.layout.specs.Lists.{Rearranged}
 use Rattle.layout.specs.Log.{Clean, HoldsFiles, LeadsToFiles}
-use Rattle.layout.specs.Table.{Table, Ask, Reply, done, on, answer, change, after}
+use Rattle.layout.specs.Table.{Table, Ask, Reply, done, early, on, answer, change, after}
 use Rattle.images.proofs.Frame.{same-sound, same-holds_files}
 use Rattle.images.proofs.Holding.{holds-files, holds_after, clean-leads}
 use Rattle.images.proofs.Pieces.{slot-data}
 use Rattle.images.proofs.Recovering.{Torn}
+use Rattle.image_check.specs.Size.{suits}
 use Rattle.image_check.specs.declared.refusal.Refusal.{Refusal}
+use Rattle.image_check.proofs.Sizing.{size-blocks}
 use Rattle.store.specs.Calls.{reply, CallCut, Changed, SlotCall}
 use Rattle.store.specs.Phase.{AllMade, CutIn, Persisted}
 use Rattle.store.proofs.Phases.{looked-made, done_more}
 use Rattle.store.proofs.Recovery.{looked-settled, torn-later}
-use Rattle.store.proofs.Calling.{Named, Known, in-order, taken-call, slot-refused, cut-call}
+use Rattle.store.proofs.Calling.{Named, Known, in-order, taken-call, slot-refused, lost-call}
 
 -- the table after a call that is done
 after-done : (t : Table) (a : Ask) (xs : List ℕ) → answer t a ≡ done xs → after t a ≡ record { blocks = t.blocks; files = change t.files a }
@@ -78,51 +80,57 @@ module _ (blocks : ℕ) (w u : Words) (a : Ask) (p x : ℕ) (big : 6 ≤ blocks)
       (torn-one blocks u p x y (omega (arith, big, h.high)) torn)
 
 -- The stores us were made before, and the word is then stored and settled, or power is lost in that.
-module _ {X : Type 0} {m j k : Model} {P : X → Type 0} {y : X} (us : List Word) (a : Ask) (p x : ℕ) (asks : Named a) (b : Known m j (on a) P y) (h : SlotChange (m.count / 32) m.seen (put us m.seen) a p x) (made : AllMade m us k) (settles : Settled m → Settled k) where
+module _ {m k : Model} (us : List Word) (a : Ask) (p x : ℕ) (t : suits m.count ≡ true) (none : early a ≡ None) (h : SlotChange (m.count / 32) m.seen (put us m.seen) a p x) (made : AllMade m us k) (settles : Settled m → Settled k) where
+  big : 6 ≤ m.count / 32
+  big = (size-blocks m.count (m.count / 32) t refl).0
+
+  size : 32 * (m.count / 32) ≤ m.count
+  size = (size-blocks m.count (m.count / 32) t refl).2
+
   last-cut : {n : Model} → CutIn k (word p x ∷ []) n → CallCut (m.count / 32) m a n
   last-cut {n} cut = record {
     down = cut.down;
     count = cut.made.count ∙ made.made.count;
     still = λ down. absurd (up-down m.up made.was-up down);
-    leads = λ settled clean tbl holds y drawn. torn-leads (m.count / 32) m.seen (put us m.seen) a p x b.big h y tbl holds (torn-later (m.count / 32) m b.big b.size us (word p x ∷ []) y made settles cut settled drawn);
+    leads = λ settled clean tbl holds y drawn. torn-leads (m.count / 32) m.seen (put us m.seen) a p x big h y tbl holds (torn-later (m.count / 32) m big size us (word p x ∷ []) y made settles cut settled drawn);
   }
 
   last-seen : {n : Model} → AllMade k (word p x ∷ []) n → (i : ℕ) → i < m.count → n.seen i ≡ one (word p x) (put us m.seen) i
   last-seen stored i lt = let all = done_more made stored in all.made.seen i lt all.up ∙ ap (λ (w : Words). w i) (put-append us (word p x ∷ []) m.seen)
 
   last-only : {n : Model} → AllMade k (word p x ∷ []) n → (i : ℕ) → i < m.count → (i < 64) ⊎ (96 ≤ i) → n.seen i ≡ m.seen i
-  last-only stored i lt off = last-seen stored i lt ∙ outside (m.count / 32) m.seen (put us m.seen) a p x b.big h i off
+  last-only stored i lt off = last-seen stored i lt ∙ outside (m.count / 32) m.seen (put us m.seen) a p x big h i off
 
   last_done : {n : Model} → AllMade k (word p x ∷ []) n → Settled n → Changed (m.count / 32) m a n
   last_done {n} stored settled =
       let v = one (word p x) (put us m.seen) in
       let all = done_more made stored in
-      let same : Same (m.count / 32) v n.seen = λ i lt. last-seen stored i (omega (arith, b.size)) in
+      let same : Same (m.count / 32) v n.seen = λ i lt. last-seen stored i (omega (arith, size)) in
       record {
         up = stored.up;
         count = all.made.count;
-        clean = record { sound = same-sound (m.count / 32) v n.seen b.big same h.last.sound; idle = same 8 (omega (arith, b.big)) ∙ h.last.idle };
-        holds = same-holds_files (m.count / 32) v n.seen (after (table_of m.seen) a) b.big same h.last.sound (held_after (m.count / 32) m.seen (put us m.seen) a p x b.big h);
+        clean = record { sound = same-sound (m.count / 32) v n.seen big same h.last.sound; idle = same 8 (omega (arith, big)) ∙ h.last.idle };
+        holds = same-holds_files (m.count / 32) v n.seen (after (table_of m.seen) a) big same h.last.sound (held_after (m.count / 32) m.seen (put us m.seen) a p x big h);
         settled = λ _. settled;
         others = λ s c j lt name other has jt.
             let d = slot-data (m.count / 32) m.seen s c h.before.sound lt name has in
-            last-only stored (32 * c + j) (omega (arith, b.size, d.1)) (inr (omega (arith, d.0)));
+            last-only stored (32 * c + j) (omega (arith, size, d.1)) (inr (omega (arith, d.0)));
       }
 
   -- the answer of the call is that of its last phase
   pub last-phase : (n : Model) (r : Result Unit Refusal) → Persisted k (word p x ∷ []) r n → SlotCall m a (reply (λ _. []) r) n
   last-phase n (Ok z) d = record {
-    call = taken-call a (done []) (in-order a asks b.formed) b.suitable (inr (inr (record { was-up = made.was-up; clean = h.before; reply = sym h.answered; refused = λ some. absurd (some refl); done = λ _. last_done d.0 d.1 })));
+    call = taken-call a (done []) none t (inr (inr (record { was-up = made.was-up; clean = h.before; reply = sym h.answered; refused = λ some. absurd (some refl); done = λ _. last_done d.0 d.1 })));
     settled = λ _. d.1;
     only = λ _ i lt off. last-only d.0 i lt off;
   }
-  last-phase n (Err e) d = slot-refused a e (cut-call a e d.1 asks b (last-cut d.0))
+  last-phase n (Err e) d = slot-refused a e (lost-call a e d.1 none t (last-cut d.0))
 
 -- the call's one phase, with its place and value as they were computed
 pub only-phase : {X : Type 0} {m k : Model} {P : X → Type 0} {y : X} (a : Ask) (p x : ℕ) → Named a → Known m k (on a) P y → SlotChange (m.count / 32) m.seen m.seen a p x
     → (n : Model) (r : Result Unit Refusal) (p' x' : ℕ) → p' ≡ p → x' ≡ x → Persisted k (word p' x' ∷ []) r n → SlotCall m a (reply (λ _. []) r) n
 only-phase {X} {m} {k} a p x asks b change n r p' x' at is done =
-    last-phase [] a p x asks b change (looked-made b.looked) (looked-settled b.looked) n r
+    last-phase [] a p x b.suitable (in-order a asks b.formed) change (looked-made b.looked) (looked-settled b.looked) n r
     (subst (λ v. Persisted k (word p v ∷ []) r n) is (subst (λ i. Persisted k (word i x' ∷ []) r n) at done))
 
 -- The call is cut off in a first phase that changes no file.

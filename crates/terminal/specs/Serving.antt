@@ -1,7 +1,7 @@
 -- A session that is served: it runs, on a fresh memory, the commands that were read.
 use Rattle.std.specs.Prelude.{◌≡◌, ℕ, false, List, [], None, Option, IfSome, take, replicate, vec_items}
 use Rattle.waiting.specs.Waits.{waiting}
-use Rattle.media.specs.Lagging.{both}
+use Rattle.media.specs.Cells.{both}
 use Rattle.media.specs.declared.lagging.LaggingMemory.{LaggingMemory}
 use Rattle.layers.specs.declared.cache.Cache.{Cache}
 use Rattle.console.specs.Turns.{Runs}

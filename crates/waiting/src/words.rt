@@ -49,9 +49,13 @@ impl Waiting {
     pub fn leaving(&self, at: u64) -> Option<Word>
         ensures { result ≡ leaving (waiting self.now) at }
     {
+        // where there is room none has to, and none is looked for
+        if self.free > 0 {
+            return None;
+        }
         match self.find(at) {
-            None if self.free == 0 => Some(self.words[0]),
-            _ => None,
+            Some(_) => None,
+            None => Some(self.words[0]),
         }
     }
 

@@ -1,8 +1,9 @@
-ghost use Rattle.std.specs.Prelude.{◌≡◌, ℕ, ◌<◌, true, false, length, replicate, is_ok, IfOk, if◌then◌else◌, None, vec_len, nat_lt, refl};
+ghost use Rattle.std.specs.Prelude.{◌≡◌, ℕ, ◌<◌, ◌≤◌, true, false, length, replicate, is_ok, IfOk, if◌then◌else◌, None, vec_len, nat_lt, refl};
 ghost use Rattle.std.proofs.Common.{inl};
 ghost use Rattle.memory.specs.Model.{Loaded, Stored, Flushed, Restarted};
 ghost use Rattle.media.specs.Power.{spent, answer, power_after};
-ghost use Rattle.media.specs.Lagging.{both, cell_at, lagging_model, newest, none_lent, survivor, with_seen};
+ghost use Rattle.media.specs.Cells.{AlikeFrom, both, cell_at};
+ghost use Rattle.media.specs.Lagging.{lagging_model, newest, none_lent, survivor, with_seen};
 
 use crate::lagging::{Cell, LaggingMemory};
 use crate::power::Power;
@@ -18,11 +19,13 @@ fn keeps_newest(given: u8, i: usize) -> bool
     (given >> (i % 8)) % 2 == 1
 }
 
-// Leaves each word the value that survives, both seen and kept.
-fn settle(cells: &mut [Cell], given: u8)
+// Leaves each word the value that survives, both seen and kept. Where nothing lags they are one value already.
+fn settle(cells: &mut [Cell], lag: usize, given: u8)
+    requires inside { lag ≤ length cells.old }
+    requires alike { AlikeFrom lag cells.old }
     ensures { (i : ℕ) → i < length cells.old → cell_at cells.new i ≡ both (survivor given i (cell_at cells.old i)) }
 {
-    for (i, cell) in cells.iter_mut().enumerate() {
+    for (i, cell) in cells[..lag].iter_mut().enumerate() {
         let word = if keeps_newest(given, i) {
             cell.seen
         } else {
@@ -35,6 +38,17 @@ fn settle(cells: &mut [Cell], given: u8)
     }
 }
 
+// Keeps each word as it is seen. Where nothing lags it is kept so already.
+fn keep(cells: &mut [Cell], lag: usize)
+    requires inside { lag ≤ length cells.old }
+    requires alike { AlikeFrom lag cells.old }
+    ensures { (i : ℕ) → i < length cells.old → cell_at cells.new i ≡ both (cell_at cells.old i).seen }
+{
+    for cell in &mut cells[..lag] {
+        cell.kept = cell.seen;
+    }
+}
+
 impl LaggingMemory {
     // A memory of so many words, all zero, with its power still off.
     pub fn new(heap: Global, count: usize, given: u8) -> Result<LaggingMemory, AllocError>
@@ -44,6 +58,7 @@ impl LaggingMemory {
     {
         Ok(LaggingMemory {
             cells: vec![in heap; Cell { seen: 0, kept: 0 }; count]?,
+            lag: 0,
             given,
             power: Power::OFF,
         })
@@ -92,6 +107,9 @@ impl Memory for LaggingMemory {
     {
         let inside = at < self.count();
         self.power.admit(inside)?;
+        if self.lag <= at as usize {
+            self.lag = at as usize + 1;
+        }
         self.cells[at as usize].seen = value;
         Ok(())
     }
@@ -106,9 +124,8 @@ impl Memory for LaggingMemory {
         ensures given { self.new.given ≡ self.old.given }
     {
         self.power.admit(true)?;
-        for cell in self.cells.iter_mut() {
-            cell.kept = cell.seen;
-        }
+        keep(&mut self.cells, self.lag);
+        self.lag = 0;
         Ok(())
     }
 
@@ -121,7 +138,8 @@ impl Memory for LaggingMemory {
         ensures cells { (i : ℕ) → i < vec_len self.old.cells → cell_at self.new.cells.items i ≡ both (survivor self.old.given i (cell_at self.old.cells.items i)) }
         ensures given { self.new.given ≡ self.old.given }
     {
-        settle(&mut self.cells, self.given);
+        settle(&mut self.cells, self.lag, self.given);
+        self.lag = 0;
         self.power = Power::ON;
         true
     }

@@ -4,7 +4,7 @@ use Rattle.layout.specs.Table.{create}
 use Rattle.image_check.specs.declared.refusal.Refusal.TheVariants.{NameTaken, TooManyFiles}
 use Rattle.images.proofs.Naming.{clearing}
 use Rattle.images.proofs.Slots.{slots-full}
-use Rattle.store.proofs.Calling.{known, refused-call, table-refused, cut-call}
+use Rattle.store.proofs.Calling.{known, in-order, refused-call, table-refused, cut-call}
 use Rattle.store.proofs.Finding.{found-none, found-taken, missing-none, missing-new, empty-slot, all_named, create-change}
 use Rattle.store.proofs.Phases.{looked-made, done_more}
 use Rattle.store.proofs.Phasing.{first-cut, last-phase}
@@ -63,4 +63,4 @@ returns-clause-created g c =
     let new = missing-new m.seen d b.is x name bytes (found-none d x c.find_slot.result c.find_slot.ensures free) in
     let empty = empty-slot m.seen d b.is slot found.0 found.1 in
     let change = create-change (m.count / 32) m.seen slot b.big b.clean found.0 name x bytes b.formed empty new in
-    last-phase (word (64 + (2 * slot + 1)) 0 ∷ []) (create name) (64 + 2 * slot) x refl b change (done_more (looked-made b.looked) zero.0) (λ _. zero.1) _ c.persist_word-2.result c.persist_word-2.ensures.done
+    last-phase (word (64 + (2 * slot + 1)) 0 ∷ []) (create name) (64 + 2 * slot) x b.suitable (in-order (create name) refl b.formed) change (done_more (looked-made b.looked) zero.0) (λ _. zero.1) _ c.persist_word-2.result c.persist_word-2.ensures.done

@@ -1,6 +1,6 @@
 use Rattle.std.proofs.Common.{◌≡◌, ℕ, ◌<◌, ◌≤◌}
-use Rattle.media.specs.Lagging.{both, cell_at}
-use Rattle.media.proofs.lagging.words.LaggingMemoryMemory.barrier.Given as goal
+use Rattle.media.specs.Cells.{both, cell_at}
+use Rattle.media.proofs.lagging.words.keep.Given as goal
 
 -- the words so far are kept as they are seen, and the others are as they were
 abbrev pub invariant-loop-cell : goal.invariant-loop-cell
